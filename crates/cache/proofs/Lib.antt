@@ -1,0 +1,2 @@
+-- Lemmas on the lines of the rule cache.
+pub mod SameLines

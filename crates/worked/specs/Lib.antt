@@ -1,0 +1,2 @@
+-- The worked values.
+pub mod Worked
