@@ -1,0 +1,3 @@
+-- The lemmas that this crate's proofs share.
+mod Places
+mod Deciding

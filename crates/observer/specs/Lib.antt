@@ -1,0 +1,5 @@
+-- The crate's definitions.
+pub mod Observer
+pub mod View
+pub mod ObserverMachine
+pub mod ObserverLaws
