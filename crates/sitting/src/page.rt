@@ -1,8 +1,8 @@
 // A page: the outputs that are visible to the sitting's reader, and the end mark.
 ghost use mathlib.Core.Path.{_≡_};
-ghost use Prim.Native.Nat.{_≤_, min};
+ghost use Prim.Native.Nat.{_<_, _≤_, min};
 ghost use lib.Dec.{leb};
-ghost use lib.ListN.{length, take};
+ghost use lib.ListN.{length, take, set};
 ghost use Rattle.std.specs.declared.option.Option.the-variants.{None};
 ghost use Rattle.labels.specs.declared.refusal.Refusal.the-variants.{WrongLength};
 ghost use Rattle.image.specs.Load.{check, answer};
@@ -118,11 +118,19 @@ impl Sitting {
         let mut place = 0;
         for cell in cells {
             if self.sees(order, cell.tag) {
-                page[place] = *cell;
+                put(page, place, *cell);
                 place += 1;
             }
         }
     }
+}
+
+// Writes one record of a page list.
+fn put(page: &mut [Cell], place: usize, cell: Cell)
+    requires { ⌜ place < length (now page) ⌝ }
+    ensures { λ _. ⌜ now (page .exit) ≡ set (now (page .entry)) place cell ⌝ }
+{
+    page[place] = cell;
 }
 
 // Refused where a page list has no room for so many outputs.
