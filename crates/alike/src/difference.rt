@@ -21,16 +21,16 @@ pub enum Difference {
 
 // The first difference of two images, of any bytes, for their reader; none if they are alike to him.
 pub fn find_difference<O: Order>(order: &O, left: &[u8], right: &[u8]) -> Option<Difference>
-    ensures answer { result ≡ difference_of (meaning order.now) left.now right.now }
-    ensures none_means_alike { result ≡ None → AlikeImages (meaning order.now) left.now right.now }
-    ensures alike_means_none { AlikeImages (meaning order.now) left.now right.now → result ≡ None }
+    ensures answer { result ≡ difference_of (O.meaning order.now) left.now right.now }
+    ensures none_means_alike { result ≡ None → AlikeImages (O.meaning order.now) left.now right.now }
+    ensures alike_means_none { AlikeImages (O.meaning order.now) left.now right.now → result ≡ None }
 {
     first_difference(order, left, right)
 }
 
 // The reader is compared first, then the code and then the cells.
 fn first_difference<O: Order>(order: &O, left: &[u8], right: &[u8]) -> Option<Difference>
-    ensures { result ≡ difference_of (meaning order.now) left.now right.now }
+    ensures { result ≡ difference_of (O.meaning order.now) left.now right.now }
 {
     let label = Tag(u16_at(left, 6));
     if label.0 != u16_at(right, 6) {
@@ -60,7 +60,7 @@ fn code_difference(left: &[u8], right: &[u8]) -> Option<usize>
 }
 
 fn cell_difference<O: Order>(order: &O, label: Tag, left: &[u8], right: &[u8]) -> Option<usize>
-    ensures { result ≡ first_difference (alike_to (reader (meaning order.now) label)) 0 (cells_of left.now) (cells_of right.now) }
+    ensures { result ≡ first_difference (alike_to (reader (O.meaning order.now) label)) 0 (cells_of left.now) (cells_of right.now) }
 {
     let left_code = u16_at(left, 2) as usize;
     let right_code = u16_at(right, 2) as usize;
@@ -99,7 +99,7 @@ fn same_entry(left: CodeEntry, right: CodeEntry) -> bool
 
 // Neither tag is visible, or tags and words are equal.
 fn alike_to<O: Order>(order: &O, label: Tag, left: Cell, right: Cell) -> bool
-    ensures { result ≡ alike_to (reader (meaning order.now) label) left right }
+    ensures { result ≡ alike_to (reader (O.meaning order.now) label) left right }
 {
     !is_visible(order, label, left.tag) && !is_visible(order, label, right.tag)
         || left.tag.0 == right.tag.0 && left.word.0 == right.word.0

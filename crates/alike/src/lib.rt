@@ -1,3 +1,5 @@
 // Whether two images are alike to their reader, and where they differ if not.
+#![tactic(auto)]
+
 pub mod difference;
 mod read;

@@ -1,6 +1,8 @@
 // The machine as functions of numbers and bytes, for a program in another language that compares it with a model.
 // Proved of them: they are safe for every input, and end; a transcript is not overrun. What they answer is compared with the
 // model's answers. It rests on the calls of `sitting`, `viewing` and `closing`, whose contracts say all that they do.
+#![tactic(auto)]
+
 ghost use Rattle.std.specs.Prelude.{◌≤◌, length};
 
 mod calls;

@@ -12,7 +12,7 @@ use rules::flow_engine::FlowEngine;
 pub fn flow_cache<O: Order>(order: O) -> RuleCache<FlowEngine<O>>
     ensures holds_order { result.engine.order ≡ order }
     ensures empty { result ≡ new_cache result.engine }
-    ensures means_flow_rules { Means (MeansBy (flow_book meaning)) result (flow (meaning order)) }
+    ensures means_flow_rules { Means (MeansBy (flow_book O.meaning)) result (flow (O.meaning order)) }
 {
     RuleCache::new(FlowEngine::new(order))
 }

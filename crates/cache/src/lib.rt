@@ -1,4 +1,6 @@
 // The rule cache: sixty-four lines over any engine.
+#![tactic(auto)]
+
 pub mod flow_cache;
 mod line;
 mod lines;

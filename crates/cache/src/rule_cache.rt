@@ -30,7 +30,7 @@ impl<E: Engine> RuleCache<E> {
     // A new cache is empty, and means whatever the engine below means.
     pub fn new(engine: E) -> RuleCache<E>
         ensures empty { result ≡ new_cache engine }
-        ensures means_what_the_engine_means { (b : Book) → means engine b → Means means result b }
+        ensures means_what_the_engine_means { (b : Book) → E.means engine b → Means E.means result b }
     {
         Self::empty_over(engine)
     }

@@ -1,4 +1,6 @@
 // The examiner's program: runs two images side by side, and says whether they are alike and how their pages compare.
+#![tactic(auto)]
+
 use alike::difference::{Difference, find_difference};
 use anyhow::anyhow;
 use cache::rule_cache::Counts;

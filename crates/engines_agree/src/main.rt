@@ -1,4 +1,6 @@
 // Asks all engines the same queries, for every order of at most 8 labels, and prints how often one differs from the flow rules.
+#![tactic(auto)]
+
 ghost use Rattle.rules.specs.Book.{Book};
 ghost use Rattle.table.specs.Table.{book_of};
 ghost use Rattle.rules.specs.Flow.{flow};
@@ -74,7 +76,7 @@ fn cached_table<'a>(table: Table<'a>) -> RuleCache<Table<'a>>
 
 // A cache over a cache means the flow rules too.
 fn twice_cached<O: Order>(order: O) -> RuleCache<RuleCache<FlowEngine<O>>>
-    ensures { Means (Means (MeansBy (flow_book meaning))) result (flow (meaning order)) }
+    ensures { Means (Means (MeansBy (flow_book O.meaning))) result (flow (O.meaning order)) }
 {
     RuleCache::new(flow_cache(order))
 }

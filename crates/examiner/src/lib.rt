@@ -1,4 +1,6 @@
 // The examiner: histories of calls, the guarantee about them, and calls that examine two sittings side by side.
+#![tactic(auto)]
+
 pub mod caches;
 pub mod compare;
 pub mod examine;

@@ -1,4 +1,6 @@
 // Execution: one step over any engine, and a run of steps with a budget.
+#![tactic(auto)]
+
 pub mod outcome;
 mod question;
 pub mod run;

@@ -25,9 +25,9 @@ pub fn run<E: Engine>(
     granted: &mut u32,
 ) -> Result<Progress, End>
     requires { HasCode image.now code_count }
-    ensures runs { RunsTo answers (code_entries image.now code_count) budget (state_of machine.old cells.old outputs.old) engine.old result granted.new (state_of machine.new cells.new outputs.new) engine.new }
-    ensures by_book { (book : Book) → means engine.old book → (ran result granted.new (state_of machine.new cells.new outputs.new) ≡ run_by book (code_entries image.now code_count) budget (state_of machine.old cells.old outputs.old)) × means engine.new book }
-    ensures laws { RunLaws answers }
+    ensures runs { RunsTo E.answers (code_entries image.now code_count) budget (state_of machine.old cells.old outputs.old) engine.old result granted.new (state_of machine.new cells.new outputs.new) engine.new }
+    ensures by_book { (book : Book) → E.means engine.old book → (ran result granted.new (state_of machine.new cells.new outputs.new) ≡ run_by book (code_entries image.now code_count) budget (state_of machine.old cells.old outputs.old)) × E.means engine.new book }
+    ensures laws { RunLaws E.answers }
 {
     *granted = 0;
     while *granted < budget {

@@ -19,7 +19,7 @@ pub fn step<E: Engine>(
     outputs: &mut [Cell],
 ) -> Result<Progress, End>
     requires { HasCode image.now code_count }
-    ensures { StepsTo answers (code_entries image.now code_count) (state_of machine.old cells.old outputs.old) engine.old result (state_of machine.new cells.new outputs.new) engine.new }
+    ensures { StepsTo E.answers (code_entries image.now code_count) (state_of machine.old cells.old outputs.old) engine.old result (state_of machine.new cells.new outputs.new) engine.new }
 {
     let (instruction, query) = question::<E>(machine, image, code_count, cells, outputs)?;
     let (next, result) = engine.ask(query)?;

@@ -44,7 +44,7 @@ pub trait Order {
 
 // Whether this is the name of the order: its kind's number and its parameters.
 pub fn has_name<O: Order>(order: &O, name: OrderName) -> bool
-    ensures { result ≡ is_named (meaning order.now) name }
+    ensures { result ≡ is_named (O.meaning order.now) name }
 {
     let own = order.parameters();
     (O::KIND.value() == name.kind) & (own.p == name.parameters.p) & (own.q == name.parameters.q)

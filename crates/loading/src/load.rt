@@ -11,10 +11,10 @@ use labels::refusal::Refusal;
 
 // Checks an image of any bytes, copies its cells and answers its header, or answers the first refusal and changes nothing.
 pub fn load<O: Order>(order: &O, image: &[u8], cells: &mut [Cell]) -> Result<Header, Refusal>
-    ensures answer { result ≡ load_answer (meaning order.now) image.now cells.old }
+    ensures answer { result ≡ load_answer (O.meaning order.now) image.now cells.old }
     ensures code_behind_header { IfOk result (λ h. 6 * h.counts.code ≤ length image.now - 8) }
     ensures cells_counted { IfOk result (λ h. h.counts.cells ≤ length cells.old) }
-    ensures cells { cells.new ≡ load_cells (meaning order.now) image.now cells.old }
+    ensures cells { cells.new ≡ load_cells (O.meaning order.now) image.now cells.old }
 {
     let header = check(order, image, cells.len())?;
     copy_cells(image, header.counts, cells);
@@ -23,7 +23,7 @@ pub fn load<O: Order>(order: &O, image: &[u8], cells: &mut [Cell]) -> Result<Hea
 
 // The checks in their order.
 fn check<O: Order>(order: &O, image: &[u8], cells: usize) -> Result<Header, Refusal>
-    ensures answer { result ≡ answer (load_refusal (meaning order.now) image.now cells) (header_of image.now) }
+    ensures answer { result ≡ answer (load_refusal (O.meaning order.now) image.now cells) (header_of image.now) }
     ensures code_behind_header { IfOk result (λ h. 6 * h.counts.code ≤ length image.now - 8) }
     ensures cells_counted { IfOk result (λ h. h.counts.cells ≤ cells) }
 {
@@ -46,7 +46,7 @@ fn check<O: Order>(order: &O, image: &[u8], cells: usize) -> Result<Header, Refu
 
 // Refused unless the tag is a label; the place is 0 for the reader's tag, and from 1 on an entry's.
 pub fn check_tag<O: Order>(order: &O, tag: Tag, place: u16) -> Result<(), Refusal>
-    ensures { result ≡ tag_checked (meaning order.now) tag place }
+    ensures { result ≡ tag_checked (O.meaning order.now) tag place }
 {
     if order.is_label(tag) {
         Ok(())
@@ -60,7 +60,7 @@ fn check_entries<O: Order>(order: &O, image: &[u8], counts: Counts) -> Result<()
     requires from_header { counts ≡ (header_of image.now).counts }
     requires image_length { length image.now ≡ length_of_image counts }
     requires within_limits { counts_fit counts ≡ true }
-    ensures { result ≡ answer (entries_refusal (meaning order.now) image.now) tt }
+    ensures { result ≡ answer (entries_refusal (O.meaning order.now) image.now) tt }
 {
     for i in 0..counts.entries() {
         check_tag(order, tag_at(image, i as u32), (i + 1) as u16)?;

@@ -1,4 +1,6 @@
 // The machine: what it holds, the faults that end it, and what an instruction needs, asks and does.
+#![tactic(auto)]
+
 mod effect;
 pub mod fault;
 pub mod frames;

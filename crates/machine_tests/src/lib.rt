@@ -1,4 +1,6 @@
 // Tests of the machine on small images: each fault, the frames, the effects, and the binary functions at their edges.
+#![tactic(auto)]
+
 pub mod always;
 #[cfg(test)]
 mod functions;

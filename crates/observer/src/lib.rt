@@ -1,4 +1,6 @@
 // What an observer sees of the machine.
+#![tactic(auto)]
+
 pub mod laws;
 pub mod reader;
 pub mod visible;

@@ -7,14 +7,14 @@ use labels::order::Order;
 
 // Whether a tag flows to the reader's label.
 pub fn is_visible<O: Order>(order: &O, label: Tag, tag: Tag) -> bool
-    ensures { result ≡ reader (meaning order.now) label tag }
+    ensures { result ≡ reader (O.meaning order.now) label tag }
 {
     order.flows(tag, label)
 }
 
 // The cell, or none where its tag is not visible.
 pub fn visible_cell<O: Order>(order: &O, label: Tag, cell: Cell) -> Option<Cell>
-    ensures { result ≡ shown (reader (meaning order.now) label) cell }
+    ensures { result ≡ shown (reader (O.meaning order.now) label) cell }
 {
     if is_visible(order, label, cell.tag) {
         Some(cell)

@@ -17,8 +17,8 @@ pub fn write_visible<O: Order>(
     cells: &[Cell],
     page: &mut [Cell],
 ) -> Result<usize, Refusal>
-    ensures answer { result ≡ answer (room_refusal (seen_cells (reader (meaning order.now) label) cells.now) page.old) (length (seen_cells (reader (meaning order.now) label) cells.now)) }
-    ensures written { page.new ≡ unless_refused (room_refusal (seen_cells (reader (meaning order.now) label) cells.now) page.old) page.old (written_over (seen_cells (reader (meaning order.now) label) cells.now) page.old) }
+    ensures answer { result ≡ answer (room_refusal (seen_cells (reader (O.meaning order.now) label) cells.now) page.old) (length (seen_cells (reader (O.meaning order.now) label) cells.now)) }
+    ensures written { page.new ≡ unless_refused (room_refusal (seen_cells (reader (O.meaning order.now) label) cells.now) page.old) page.old (written_over (seen_cells (reader (O.meaning order.now) label) cells.now) page.old) }
 {
     if !has_room(order, label, cells, page) {
         return Err(Refusal::WrongLength);
@@ -29,14 +29,14 @@ pub fn write_visible<O: Order>(
 // Whether a list has room for those of some cells that the reader sees. They are counted only where the list is shorter
 // than the cells are many.
 fn has_room<O: Order>(order: &O, label: Tag, cells: &[Cell], page: &[Cell]) -> bool
-    ensures { result ≡ nat_le (length (seen_cells (reader (meaning order.now) label) cells.now)) (length page.now) }
+    ensures { result ≡ nat_le (length (seen_cells (reader (O.meaning order.now) label) cells.now)) (length page.now) }
 {
     cells.len() <= page.len() || count_visible(order, label, cells) <= page.len()
 }
 
 // How many of some cells the reader sees.
 fn count_visible<O: Order>(order: &O, label: Tag, cells: &[Cell]) -> usize
-    ensures { result ≡ length (seen_cells (reader (meaning order.now) label) cells.now) }
+    ensures { result ≡ length (seen_cells (reader (O.meaning order.now) label) cells.now) }
 {
     let mut count = 0;
     for cell in cells {
@@ -51,9 +51,9 @@ fn count_visible<O: Order>(order: &O, label: Tag, cells: &[Cell]) -> usize
 // Writes those of some cells that the reader sees to the front of a list that has room for them, and answers how many
 // there are.
 fn copy_visible<O: Order>(order: &O, label: Tag, cells: &[Cell], page: &mut [Cell]) -> usize
-    requires { length (seen_cells (reader (meaning order.now) label) cells.now) ≤ length page.old }
-    ensures answer { result ≡ length (seen_cells (reader (meaning order.now) label) cells.now) }
-    ensures written { page.new ≡ written_over (seen_cells (reader (meaning order.now) label) cells.now) page.old }
+    requires { length (seen_cells (reader (O.meaning order.now) label) cells.now) ≤ length page.old }
+    ensures answer { result ≡ length (seen_cells (reader (O.meaning order.now) label) cells.now) }
+    ensures written { page.new ≡ written_over (seen_cells (reader (O.meaning order.now) label) cells.now) page.old }
 {
     let mut place = 0;
     for cell in cells {

@@ -1,5 +1,7 @@
 // The program: opens the image on standard input in the order that its header names, runs it, prints what its reader may
 // see and how the run went, and closes the sitting. Its record goes to the file that the argument names, if there is one.
+#![tactic(auto)]
+
 use anyhow::anyhow;
 use closing::close::{RECORD_LENGTH, close};
 use closing::record::{ClosingRecord, RefusedFiling};

@@ -1,4 +1,6 @@
 // Prints the closing record of a sitting in each of its states, filed once and copied once.
+#![tactic(auto)]
+
 use closing::close::{RECORD_LENGTH, close};
 use closing::record::{ClosingRecord, RefusedFiling};
 use labels::cell::{Cell, Tag, Word};

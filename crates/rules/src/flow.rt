@@ -23,14 +23,14 @@ pub const NO_FLOW_TO_CELL: u8 = 3;
 pub const NO_SUCH_CLASS: u8 = 4;
 
 fn unused_or_label<O: Order>(order: &O, mask: u8, weight: u8, tag: Tag) -> bool
-    ensures { result ≡ unused_or (meaning order.now).label mask weight tag }
+    ensures { result ≡ unused_or (O.meaning order.now).label mask weight tag }
 {
     mask & weight == 0 || order.is_label(tag)
 }
 
 // Whether each tag that a mask names is a label.
 fn uses_labels<O: Order>(order: &O, mask: u8, query: &Query) -> bool
-    ensures { result ≡ each_used (meaning order.now).label mask query.now }
+    ensures { result ≡ each_used (O.meaning order.now).label mask query.now }
 {
     unused_or_label(order, mask, mask::PC, query.pc)
         && unused_or_label(order, mask, mask::INSTRUCTION, query.instruction)
@@ -42,7 +42,7 @@ fn uses_labels<O: Order>(order: &O, mask: u8, query: &Query) -> bool
 
 // Refuses a class with no rule, and then a used tag that is no label.
 fn check_query<O: Order>(order: &O, query: &Query) -> Result<(), Violation>
-    ensures { result ≡ checked (meaning order.now) query.now }
+    ensures { result ≡ checked (O.meaning order.now) query.now }
 {
     let Some(mask) = mask_of(query.class) else {
         return Err(Violation {
@@ -58,7 +58,7 @@ fn check_query<O: Order>(order: &O, query: &Query) -> Result<(), Violation>
 
 // A write to register d: the tag of the pc must flow to the tag that d has.
 fn write_register<O: Order>(order: &O, query: &Query, res: Tag) -> Verdict
-    ensures { result ≡ (if (meaning order.now).flows query.now.pc query.now.d then Ok (query.now.pc, res) else caused 2 tt) }
+    ensures { result ≡ (if (O.meaning order.now).flows query.now.pc query.now.d then Ok (query.now.pc, res) else caused 2 tt) }
 {
     if order.flows(query.pc, query.d) {
         Ok((query.pc, res))
@@ -71,7 +71,7 @@ fn write_register<O: Order>(order: &O, query: &Query, res: Tag) -> Verdict
 
 // A write to memory: the join of the tags of the address and the pc must flow to the tag that the cell has.
 fn write_memory<O: Order>(order: &O, query: &Query, res: Tag) -> Verdict
-    ensures { result ≡ (if (meaning order.now).flows ((meaning order.now).join query.now.a query.now.pc) query.now.memory then Ok (query.now.pc, res) else caused 3 tt) }
+    ensures { result ≡ (if (O.meaning order.now).flows ((O.meaning order.now).join query.now.a query.now.pc) query.now.memory then Ok (query.now.pc, res) else caused 3 tt) }
 {
     if order.flows(order.join(query.a, query.pc), query.memory) {
         Ok((query.pc, res))
@@ -85,7 +85,7 @@ fn write_memory<O: Order>(order: &O, query: &Query, res: Tag) -> Verdict
 // The rule of the query's class, which has one.
 fn apply_rule<O: Order>(order: &O, query: &Query) -> Verdict
     requires { query.now.class ≤ 13 }
-    ensures { result ≡ by_rule (meaning order.now) query.now (rule query.now.class) }
+    ensures { result ≡ by_rule (O.meaning order.now) query.now (rule query.now.class) }
 {
     let Query {
         class,
@@ -116,7 +116,7 @@ fn apply_rule<O: Order>(order: &O, query: &Query) -> Verdict
 
 // The verdict of an order's flow rules.
 pub fn judge<O: Order>(order: &O, query: &Query) -> Verdict
-    ensures { result ≡ flow (meaning order.now) query.now }
+    ensures { result ≡ flow (O.meaning order.now) query.now }
 {
     check_query(order, query)?;
     apply_rule(order, query)

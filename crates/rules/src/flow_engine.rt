@@ -17,7 +17,7 @@ pub struct FlowEngine<O> {
 impl<O: Order> FlowEngine<O> {
     pub fn new(order: O) -> FlowEngine<O>
         ensures holds_order { result.order ≡ order }
-        ensures means_flow_rules { MeansBy (flow_book meaning) result (flow (meaning order)) }
+        ensures means_flow_rules { MeansBy (flow_book O.meaning) result (flow (O.meaning order)) }
     {
         FlowEngine { order }
     }

@@ -1,4 +1,6 @@
 // Queries, verdicts, the flow rules and engines.
+#![tactic(auto)]
+
 pub mod class;
 pub mod engine;
 pub mod flow;

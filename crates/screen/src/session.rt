@@ -92,7 +92,7 @@ fn show_sitting<O: Order + Copy>(
     outputs: &mut [Cell],
     page: &mut [Cell],
 ) -> Result<Report, Refusal>
-    ensures { session (report_with result page.new) (standing sitting.new) ≡ session_in (meaning order) budget (standing sitting.old) image.now cells.old outputs.old page.old }
+    ensures { session (report_with result page.new) (standing sitting.new) ≡ session_in (O.meaning order) budget (standing sitting.old) image.now cells.old outputs.old page.old }
 {
     sitting.open(&order, image, cells, outputs)?;
     let mut cache = flow_cache(order);

@@ -1,4 +1,6 @@
 // Sittings: an image opened for a reader, with the machine that runs it.
+#![tactic(auto)]
+
 pub mod new;
 pub mod open;
 pub mod open_named;

@@ -20,7 +20,7 @@ impl Sitting {
         cells: &mut [Cell],
         outputs: &[Cell],
     ) -> Result<(), Refusal>
-        ensures opened { after_call result (standing self.new) cells.new ≡ opened (meaning order.now) (standing self.old) image.now cells.old (length outputs.now) }
+        ensures opened { after_call result (standing self.new) cells.new ≡ opened (O.meaning order.now) (standing self.old) image.now cells.old (length outputs.now) }
         ensures unchanged_if_refused { is_err result ≡ true → self.new ≡ self.old }
     {
         self.check_blank()?;

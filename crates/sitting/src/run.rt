@@ -24,8 +24,8 @@ impl Sitting {
         cells: &mut [Cell],
         outputs: &mut [Cell],
     ) -> Result<u32, Refusal>
-        ensures runs { SittingRuns answers (standing self.old) image.now cells.old outputs.old budget engine.old (run_done result (standing self.new) cells.new outputs.new) engine.new }
-        ensures by_book { (book : Book) → means engine.old book → (run_done result (standing self.new) cells.new outputs.new ≡ sitting_run_by book (standing self.old) image.now cells.old outputs.old budget) × means engine.new book }
+        ensures runs { SittingRuns E.answers (standing self.old) image.now cells.old outputs.old budget engine.old (run_done result (standing self.new) cells.new outputs.new) engine.new }
+        ensures by_book { (book : Book) → E.means engine.old book → (run_done result (standing self.new) cells.new outputs.new ≡ sitting_run_by book (standing self.old) image.now cells.old outputs.old budget) × E.means engine.new book }
         ensures unchanged_if_refused { is_err result ≡ true → self.new ≡ self.old }
     {
         let State::Running = self.state else {

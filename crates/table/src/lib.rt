@@ -1,4 +1,6 @@
 // The table: an engine over rows that an order can be compiled into.
+#![tactic(auto)]
+
 pub mod compile;
 mod digits;
 mod layout;

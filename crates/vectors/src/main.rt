@@ -2,6 +2,8 @@
 //
 // A line that begins with `image` is an image: words of hexadecimal byte pairs, each repeated N times where *N follows
 // it. Any other line is printed as it stands.
+#![tactic(auto)]
+
 ghost use Rattle.std.specs.Prelude.{◌<◌, IfOk};
 
 use anyhow::anyhow;

@@ -18,7 +18,7 @@ pub(crate) fn check_look<O: Order>(
     cells: &[Cell],
     outputs: &[Cell],
 ) -> Result<(), Refusal>
-    ensures { result ≡ answer (look_refusal (meaning order.now) (standing sitting.now) image.now cells.now outputs.now None) tt }
+    ensures { result ≡ answer (look_refusal (O.meaning order.now) (standing sitting.now) image.now cells.now outputs.now None) tt }
 {
     if let State::Blank = sitting.state() {
         return Err(Refusal::WrongState);
@@ -34,7 +34,7 @@ pub(crate) fn check_look<O: Order>(
 
 // Whether the sitting is halted and its pc tag is visible.
 pub(crate) fn end_mark<O: Order>(sitting: &Sitting, order: &O) -> bool
-    ensures { result ≡ end_mark (reader_of (meaning order.now) (standing sitting.now)) (standing sitting.now) }
+    ensures { result ≡ end_mark (reader_of (O.meaning order.now) (standing sitting.now)) (standing sitting.now) }
 {
     match sitting.state() {
         State::Halted => is_visible(order, sitting.header().reader, sitting.pc_tag()),

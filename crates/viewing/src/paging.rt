@@ -21,8 +21,8 @@ pub fn page<O: Order>(
     outputs: &[Cell],
     page: &mut [Cell],
 ) -> Result<Page, Refusal>
-    ensures answer { result ≡ page_answer (meaning order.now) (standing sitting.now) image.now cells.now outputs.now page.old }
-    ensures written { page.new ≡ page_written (meaning order.now) (standing sitting.now) image.now cells.now outputs.now page.old }
+    ensures answer { result ≡ page_answer (O.meaning order.now) (standing sitting.now) image.now cells.now outputs.now page.old }
+    ensures written { page.new ≡ page_written (O.meaning order.now) (standing sitting.now) image.now cells.now outputs.now page.old }
 {
     check_look(sitting, order, image, cells, outputs)?;
     let so_far = outputs_so_far(sitting, outputs);

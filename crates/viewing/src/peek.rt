@@ -37,7 +37,7 @@ pub fn peek<O: Order>(
     outputs: &[Cell],
     at: Location,
 ) -> Result<Peeked, Refusal>
-    ensures { result ≡ peek_answer (meaning order.now) (standing sitting.now) image.now cells.now outputs.now at }
+    ensures { result ≡ peek_answer (O.meaning order.now) (standing sitting.now) image.now cells.now outputs.now at }
 {
     check_look(sitting, order, image, cells, outputs)?;
     check_end_mark(sitting, order)?;
@@ -47,7 +47,7 @@ pub fn peek<O: Order>(
 
 // Refused where the end mark is not set.
 fn check_end_mark<O: Order>(sitting: &Sitting, order: &O) -> Result<(), Refusal>
-    ensures { result ≡ answer (check (end_mark (reader_of (meaning order.now) (standing sitting.now)) (standing sitting.now)) NoEndMark None) tt }
+    ensures { result ≡ answer (check (end_mark (reader_of (O.meaning order.now) (standing sitting.now)) (standing sitting.now)) NoEndMark None) tt }
 {
     if end_mark(sitting, order) {
         Ok(())
@@ -71,7 +71,7 @@ fn cell_there(sitting: &Sitting, cells: &[Cell], at: Location) -> Result<Cell, R
 
 // The cell as the reader sees it.
 fn show_cell<O: Order>(sitting: &Sitting, order: &O, cell: Cell) -> Peeked
-    ensures { result ≡ peeked (shown (reader_of (meaning order.now) (standing sitting.now)) cell) }
+    ensures { result ≡ peeked (shown (reader_of (O.meaning order.now) (standing sitting.now)) cell) }
 {
     match visible_cell(order, sitting.header().reader, cell) {
         Some(cell) => Peeked::Shown(cell),

@@ -1,4 +1,6 @@
 // The worked values: what the definitions come to on examples.
+#![tactic(auto)]
+
 ghost use Rattle.std.specs.Prelude.{◌≡◌, length};
 ghost use Rattle.worked.specs.Worked.{worked_values, WorkedValuesFollow};
 

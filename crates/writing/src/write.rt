@@ -23,10 +23,10 @@ pub fn write<O: Order>(
     cells: &[Cell],
     buffer: &mut [u8],
 ) -> Result<(), Refusal>
-    ensures answer { result ≡ write_answer (meaning order.now) reader code.now cells.now buffer.old }
-    ensures bytes { buffer.new ≡ write_bytes (meaning order.now) reader code.now cells.now buffer.old }
-    ensures loads_back { OnOk result (LoadsBack (meaning order.now) reader code.now cells.now buffer.new) }
-    ensures own_bytes { OwnBytes (meaning order.now) reader code.now cells.now (length buffer.old) result buffer.new }
+    ensures answer { result ≡ write_answer (O.meaning order.now) reader code.now cells.now buffer.old }
+    ensures bytes { buffer.new ≡ write_bytes (O.meaning order.now) reader code.now cells.now buffer.old }
+    ensures loads_back { OnOk result (LoadsBack (O.meaning order.now) reader code.now cells.now buffer.new) }
+    ensures own_bytes { OwnBytes (O.meaning order.now) reader code.now cells.now (length buffer.old) result buffer.new }
 {
     check_and_fill(order, reader, code, cells, buffer)
 }
@@ -39,8 +39,8 @@ fn check_and_fill<O: Order>(
     cells: &[Cell],
     buffer: &mut [u8],
 ) -> Result<(), Refusal>
-    ensures answer { result ≡ write_answer (meaning order.now) reader code.now cells.now buffer.old }
-    ensures bytes { buffer.new ≡ write_bytes (meaning order.now) reader code.now cells.now buffer.old }
+    ensures answer { result ≡ write_answer (O.meaning order.now) reader code.now cells.now buffer.old }
+    ensures bytes { buffer.new ≡ write_bytes (O.meaning order.now) reader code.now cells.now buffer.old }
     ensures fits { OnOk result (EntriesFit (entries code.now cells.now)) }
 {
     let counts = check(order, reader, code, cells, buffer.len())?;
@@ -57,7 +57,7 @@ fn check<O: Order>(
     cells: &[Cell],
     bytes: usize,
 ) -> Result<Counts, Refusal>
-    ensures { result ≡ answer (write_refusal (meaning order.now) reader code.now cells.now bytes) (counts_of code.now cells.now) }
+    ensures { result ≡ answer (write_refusal (O.meaning order.now) reader code.now cells.now bytes) (counts_of code.now cells.now) }
 {
     let counts = Counts::new(code.len(), cells.len())?;
     if bytes != counts.image_length() {
@@ -71,7 +71,7 @@ fn check<O: Order>(
 // Whether every entry's tag is a label; if not, the first that is none by its place.
 fn check_entries<O: Order>(order: &O, code: &[CodeEntry], cells: &[Cell]) -> Result<(), Refusal>
     requires { counts_fit (counts_of code.now cells.now) ≡ true }
-    ensures { result ≡ answer (check_labels (meaning order.now).label 1 (tags_of code.now cells.now)) tt }
+    ensures { result ≡ answer (check_labels (O.meaning order.now).label 1 (tags_of code.now cells.now)) tt }
 {
     for i in 0..code.len() + cells.len() {
         check_tag(order, entry_at(code, cells, i).tag, (i + 1) as u16)?;
@@ -81,7 +81,7 @@ fn check_entries<O: Order>(order: &O, code: &[CodeEntry], cells: &[Cell]) -> Res
 
 // The order's name.
 fn name_of<O: Order>(order: &O) -> OrderName
-    ensures answer { result ≡ name_of (meaning order.now) }
+    ensures answer { result ≡ name_of (O.meaning order.now) }
     ensures fits { (result.kind < 16) × (result.parameters.p < 16) × (result.parameters.q < 16) }
 {
     OrderName {
