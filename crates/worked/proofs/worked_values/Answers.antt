@@ -12,4 +12,4 @@ unfolding ones ones_in flow row_count rows_below
 values_follow = refl
 
 pub returns : goal.returns
-returns c = record { number = c.number-of-values.ensures; follow = values_follow }
+returns c = record { number = c.number_of_values.ensures; follow = values_follow }

@@ -5,13 +5,13 @@ use Rattle.alike.specs.Difference.{same_entry, end_difference}
 use Rattle.alike.proofs.Places.{same_here, other_here, at_the_end}
 use Rattle.alike.proofs.difference.code_difference.Goals as goal
 
-pub returns-then-not-same-entry : goal.returns-then-not-same-entry
-returns-then-not-same-entry c =
+pub returns-then-not-same_entry : goal.returns-then-not-same_entry
+returns-then-not-same_entry c =
     let left = c.args.left.now in
     let right = c.args.right.now in
     let i = c.loop-i.i in
     let other : same_entry (code_entry_at left i) (code_entry_at right i) ≡ false =
-    sym (ap₂ same_entry c.code-entry-at.ensures c.code-entry-at-in-loop-i.ensures) ∙ sym c.same-entry.ensures ∙ c.if-not-same-entry.true in
+    sym (ap₂ same_entry c.code_entry_at.ensures c.code_entry_at-in-loop-i.ensures) ∙ sym c.same_entry.ensures ∙ c.if-not-same_entry.true in
     sym (other_here same_entry (code_entry_at left) (code_entry_at right) (header_of left).counts.code (header_of right).counts.code i (omega arith) (omega arith) other)
     ∙ c.loop-i.invariant
 
@@ -21,7 +21,7 @@ loop-i-preserved c =
     let right = c.args.right.now in
     let i = c.loop-i.i in
     let same : same_entry (code_entry_at left i) (code_entry_at right i) ≡ true =
-    sym (ap₂ same_entry c.code-entry-at.ensures c.code-entry-at-in-loop-i.ensures) ∙ sym c.same-entry.ensures ∙ c.if-not-same-entry.false in
+    sym (ap₂ same_entry c.code_entry_at.ensures c.code_entry_at-in-loop-i.ensures) ∙ sym c.same_entry.ensures ∙ c.if-not-same_entry.false in
     sym (same_here same_entry (code_entry_at left) (code_entry_at right) (header_of left).counts.code (header_of right).counts.code i (omega arith) (omega arith) same)
     ∙ c.loop-i.invariant
 
@@ -33,5 +33,5 @@ returns c =
     let n = (header_of left).counts.code in
     let m = (header_of right).counts.code in
     let last : i ≡ min n m = omega arith in
-    c.end-difference.ensures ∙ ap₂ end_difference c.u16-at-left-count.ensures c.u16-at-right-count.ensures
+    c.end_difference.ensures ∙ ap₂ end_difference c.u16_at-left_count.ensures c.u16_at-right_count.ensures
     ∙ sym (at_the_end same_entry (code_entry_at left) (code_entry_at right) n m i last) ∙ c.loop-i.invariant

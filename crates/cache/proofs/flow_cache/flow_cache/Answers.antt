@@ -8,7 +8,7 @@ pub returns : goal.returns
 returns g c =
     let made = c.new-2.ensures.empty in
     record {
-      holds-order = ap (λ r. r.engine.order) made ∙ c.new.ensures.holds-order;
+      holds_order = ap (λ r. r.engine.order) made ∙ c.new.ensures.holds_order;
       empty = made ∙ ap new_cache (sym (ap (λ r. r.engine) made));
-      means-flow-rules = c.new-2.ensures.means-what-the-engine-means (flow (g.O.Order.meaning c.args.order)) c.new.ensures.means-flow-rules;
+      means_flow_rules = c.new-2.ensures.means_what_the_engine_means (flow (g.O.Order.meaning c.args.order)) c.new.ensures.means_flow_rules;
     }

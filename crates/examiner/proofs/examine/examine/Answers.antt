@@ -8,26 +8,26 @@ use Rattle.examiner.proofs.examine.examine.Goals as goal
 pub returns : goal.returns
 returns g c =
     let m = g.O.Order.meaning c.args.order.now in
-    let left_given = memory c.args.left-image.now c.args.left-cells.now c.args.left-outputs.now in
-    let right_given = memory c.args.right-image.now c.args.right-cells.now c.args.right-outputs.now in
-    let left = c.examine-side-left in
-    let right = c.examine-side-right in
+    let left_given = memory c.args.left_image.now c.args.left_cells.now c.args.left_outputs.now in
+    let right_given = memory c.args.right_image.now c.args.right_cells.now c.args.right_outputs.now in
+    let left = c.examine_side-left in
+    let right = c.examine_side-right in
     let left_side = side_of left.result left.new.cells left.new.outputs left.new.page in
     let right_side = side_of right.result right.new.cells right.new.outputs right.new.page in
-    let same_left = sym c.side-by-side.ensures.left in
-    let same_right = sym c.side-by-side.ensures.right in
-    let compared = c.side-by-side.ensures.comparison in
+    let same_left = sym c.side_by_side.ensures.left in
+    let same_right = sym c.side_by_side.ensures.right in
+    let compared = c.side_by_side.ensures.comparison in
     let guarantee = c.noninterference.ensures c.args.order.now in
     record {
       left = subst
-          (λ (x : SideSeen). SideExamined g.L.Engine.answers m g.L.Engine.means left_given c.args.left-page.now c.args.budget c.args.left-engine.now (side_of x left.new.cells left.new.outputs left.new.page) left.new.engine)
+          (λ (x : SideSeen). SideExamined g.L.Engine.answers m g.L.Engine.means left_given c.args.left_page.now c.args.budget c.args.left_engine.now (side_of x left.new.cells left.new.outputs left.new.page) left.new.engine)
           same_left left.ensures;
       right = subst
-          (λ (x : SideSeen). SideExamined g.R.Engine.answers m g.R.Engine.means right_given c.args.right-page.now c.args.budget c.args.right-engine.now (side_of x right.new.cells right.new.outputs right.new.page) right.new.engine)
+          (λ (x : SideSeen). SideExamined g.R.Engine.answers m g.R.Engine.means right_given c.args.right_page.now c.args.budget c.args.right_engine.now (side_of x right.new.cells right.new.outputs right.new.page) right.new.engine)
           same_right right.ensures;
       comparison = compared
           ∙ ap (λ (x : SideSeen). pages_compared x.page left.new.page right.result.page right.new.page) same_left
-          ∙ ap (λ (x : SideSeen). pages_compared c.side-by-side.result.left.page left.new.page x.page right.new.page) same_right;
+          ∙ ap (λ (x : SideSeen). pages_compared c.side_by_side.result.left.page left.new.page x.page right.new.page) same_right;
       guarantee = guarantee;
       never_different = λ left_means right_means alike e.
           sides_not_different m g.L.Engine.answers g.L.Engine.means g.R.Engine.answers g.R.Engine.means guarantee left_given right_given left_side right_side

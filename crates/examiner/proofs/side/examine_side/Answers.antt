@@ -12,10 +12,10 @@ returns g c =
     let given = memory c.args.image.now c.args.cells.now c.args.outputs.now in
     let page = c.args.page.now in
     let e = c.args.engine.now in
-    let e' = c.open-run-page-page.new.engine in
-    let side = side_done c.open-run-page-page.result (standing c.open-run-page-page.new.sitting) c.open-run-page-page.new.cells c.open-run-page-page.new.outputs c.open-run-page-page.new.page in
+    let e' = c.open_run_page-page.new.engine in
+    let side = side_done c.open_run_page-page.result (standing c.open_run_page-page.new.sitting) c.open_run_page-page.new.cells c.open_run_page-page.new.outputs c.open_run_page-page.new.page in
     let new = c.new-sitting.ensures in
-    let done = c.open-run-page-page.ensures in
+    let done = c.open_run_page-page.ensures in
     let examined = subst (λ (s : Standing). ExaminedFrom g.E.Engine.answers m s given page c.args.budget e side e') new done.examined in
     record {
       examined = examined;

@@ -12,8 +12,8 @@ loop-i-preserved c =
     let code = (header_of image).counts.code in
     let f : ℕ → Cell = λ k. cell_entry_at image (code + k) in
     let i = c.loop-i.i in
-    let same : c.args.counts.code ≡ code = ap (λ n. n.code) c.requires.from-header in
-    let copied : c.cell-at.result ≡ f i = c.cell-at.ensures ∙ ap (λ n. cell_entry_at image (n + i)) same in
+    let same : c.args.counts.code ≡ code = ap (λ n. n.code) c.requires.from_header in
+    let copied : c.cell_at.result ≡ f i = c.cell_at.ensures ∙ ap (λ n. cell_entry_at image (n + i)) same in
     λ k d h.
     subst (λ (x : Cell). get_or (set c.loop-i.cells i x) k d ≡ f k) (sym copied)
     (fill_by_more f c.loop-i.cells i d (omega arith) (λ j. c.loop-i.invariant j d) k h)
@@ -23,5 +23,5 @@ returns c =
     let image = c.args.image.now in
     let n = (header_of image).counts in
     let f : ℕ → Cell = λ k. cell_entry_at image (n.code + k) in
-    let same : c.args.counts.cells ≡ n.cells = ap (λ n. n.cells) c.requires.from-header in
-    fill_by_all f c.loop-i.cells n.cells (f 0) (c.loop-i.auto.cells ∙ c.requires.cells-length ∙ same) (λ k h. c.loop-i.invariant k (f 0) (omega (arith, c.requires.cells-length)))
+    let same : c.args.counts.cells ≡ n.cells = ap (λ n. n.cells) c.requires.from_header in
+    fill_by_all f c.loop-i.cells n.cells (f 0) (c.loop-i.auto.cells ∙ c.requires.cells_length ∙ same) (λ k h. c.loop-i.invariant k (f 0) (omega (arith, c.requires.cells_length)))

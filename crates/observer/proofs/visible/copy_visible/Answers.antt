@@ -13,8 +13,8 @@ put-requires g c =
     let sees = reader (g.O.Order.meaning c.args.order.now) c.args.label in
     next_has_place sees c.args.cells.now c.loop-cell.cell-index _ c.loop-cell.page c.loop-cell.place _ c.loop-cell.invariant.0 _ c.loop-cell-test.true c.in-Some.ensures
 
-pub overflow-add-place : goal.overflow-add-place
-overflow-add-place g c =
+pub overflow_add-place : goal.overflow_add-place
+overflow_add-place g c =
     let sees = reader (g.O.Order.meaning c.args.order.now) c.args.label in
     let h : c.loop-cell.place < length c.loop-cell.page = next_has_place sees c.args.cells.now c.loop-cell.cell-index _ c.loop-cell.page c.loop-cell.place _ c.loop-cell.invariant.0 _ c.loop-cell-test.true c.in-Some.ensures in
     search rules
@@ -24,7 +24,7 @@ loop-cell-preserved g c =
     let sees = reader (g.O.Order.meaning c.args.order.now) c.args.label in
     let cells = c.args.cells.now in
     let i = c.loop-cell.cell-index in
-    elim c.match-visible-cell.branch [
+    elim c.match-visible_cell.branch [
       | in-Some w ↦ (
         writes_at _ _ _ _ _ _ (w.page-is ∙ w.put.ensures) w.place-is (seen_is_written sees cells i _ c.loop-cell.page c.loop-cell.place _ c.loop-cell.invariant.0 _ c.loop-cell-test.true w.in-Some.ensures),
         omega (arith, w.place-is, c.loop-cell.invariant.1, ap length (seen_here sees cells i _ _ c.loop-cell-test.true w.in-Some.ensures)),

@@ -5,8 +5,8 @@ use Rattle.observer.proofs.SeenLists.{seen_length, seen_here, not_seen_here, non
 use Rattle.observer.proofs.visible.count_visible.Goals as goal
 use Rattle.observer.proofs.visible.count_visible.Goals.{in-Some, in-None}
 
-pub overflow-add-count : goal.overflow-add-count
-overflow-add-count g c =
+pub overflow_add-count : goal.overflow_add-count
+overflow_add-count g c =
     let sees = reader (g.O.Order.meaning c.args.order.now) c.args.label in
     let cells = c.args.cells.now in
     let here = ap length (seen_here sees cells c.loop-cell.cell-index _ _ c.loop-cell-test.true c.in-Some.ensures) in
@@ -17,7 +17,7 @@ pub loop-cell-preserved : goal.loop-cell-preserved
 loop-cell-preserved g c =
     let sees = reader (g.O.Order.meaning c.args.order.now) c.args.label in
     let cells = c.args.cells.now in
-    elim c.match-visible-cell.branch [
+    elim c.match-visible_cell.branch [
       | in-Some w ↦ omega (arith, w.count-is, c.loop-cell.invariant, ap length (seen_here sees cells c.loop-cell.cell-index _ _ c.loop-cell-test.true w.in-Some.ensures))
       | in-None w ↦ omega (arith, w.count-is, c.loop-cell.invariant, ap length (not_seen_here sees cells c.loop-cell.cell-index _ c.loop-cell-test.true w.in-None.ensures))
     ]

@@ -3,9 +3,9 @@ use Rattle.std.proofs.Common.{rules}
 use Rattle.rules.specs.Flow.{flow}
 use Rattle.rules.proofs.flow.judge.Goals as goal
 
-pub returns-in-err-check-query : goal.returns-in-err-check-query
+pub returns-in_err-check_query : goal.returns-in_err-check_query
 unfolding flow
-returns-in-err-check-query g c = search rules
+returns-in_err-check_query g c = search rules
 
 pub returns : goal.returns
 unfolding flow

@@ -7,5 +7,5 @@ use Rattle.rules.proofs.mask.cleared.Goals as goal
 
 pub returns-in-Some : goal.returns-in-Some
 returns-in-Some c =
-    let same : c.cleared-by.result ≡ cleared c.args.query = search rules in
+    let same : c.cleared_by.result ≡ cleared c.args.query = search rules in
     record { answer = same; judged_alike = λ m. ap (flow m) same ∙ judged_alike m c.args.query }

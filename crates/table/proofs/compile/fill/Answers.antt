@@ -9,20 +9,20 @@ use Rattle.table.proofs.compile.fill.Goals as goal
 part : (g : given.Over) (c : goal.After-start-to g) → Part c.args.layout.now.labels c.loop-class.class c.start-from.result c.start-to.result (length c.loop-class.rows)
 part g c = part_of c.args.layout.now c.loop-class.class c.start-from.result c.start-to.result (length c.loop-class.rows) c.requires.1 (omega arith) c.start-from.ensures c.start-to.ensures (c.loop-class.auto.rows ∙ c.requires.2)
 
-pub offset-bounds-rows-from : goal.offset-bounds-rows-from
-offset-bounds-rows-from g c = let p = part g c in record { fits = omega arith }
+pub offset_bounds-rows-from : goal.offset_bounds-rows-from
+offset_bounds-rows-from g c = let p = part g c in record { fits = omega arith }
 
-pub slice-bounds-fill-class-count : goal.slice-bounds-fill-class-count
-slice-bounds-fill-class-count g c = let p = part g c in omega arith
+pub slice_bounds-fill_class-count : goal.slice_bounds-fill_class-count
+slice_bounds-fill_class-count g c = let p = part g c in omega arith
 
-pub slice-bounds-fill-class-start : goal.slice-bounds-fill-class-start
-slice-bounds-fill-class-start g c = let p = part g c in search rules
+pub slice_bounds-fill_class-start : goal.slice_bounds-fill_class-start
+slice_bounds-fill_class-start g c = let p = part g c in search rules
 
-pub slice-bounds-fill-class-end : goal.slice-bounds-fill-class-end
-slice-bounds-fill-class-end g c = let p = part g c in search rules
+pub slice_bounds-fill_class-end : goal.slice_bounds-fill_class-end
+slice_bounds-fill_class-end g c = let p = part g c in search rules
 
-pub fill-class-requires : goal.fill-class-requires
-fill-class-requires g c =
+pub fill_class-requires : goal.fill_class-requires
+fill_class-requires g c =
     let p = part_of c.args.layout.now c.loop-class.class c.start-from.result c.start-to.result (length c.loop-class.rows) c.requires.1 (omega arith) c.start-from.ensures c.start-to.ensures (c.loop-class.auto.rows ∙ c.requires.2) in
     (c.requires.0, omega arith, simp (length-take, length-drop) (omega arith))
 
@@ -33,8 +33,8 @@ loop-class-init g c = refl
 pub loop-class-preserved : goal.loop-class-preserved
 loop-class-preserved g c =
     let p = part_of c.args.layout.now c.loop-class.class c.start-from.result c.start-to.result (length c.loop-class.rows) c.requires.1 (omega arith) c.start-from.ensures c.start-to.ensures (c.loop-class.auto.rows ∙ c.requires.2) in
-    filled_more c.args.layout.now.labels (g.O.Order.meaning c.args.order.now) c.loop-class.class c.start-from.result c.start-to.result c.loop-class.rows c.fill-class.new.rows
-    p.start (omega arith) c.fill-class.ensures c.loop-class.invariant
+    filled_more c.args.layout.now.labels (g.O.Order.meaning c.args.order.now) c.loop-class.class c.start-from.result c.start-to.result c.loop-class.rows c.fill_class.new.rows
+    p.start (omega arith) c.fill_class.ensures c.loop-class.invariant
 
 pub returns : goal.returns
 returns g c =

@@ -16,7 +16,7 @@ loop-i-preserved g c =
     let i = c.loop-i.i in
     let row : ℕ → ℕ = λ k. pack (flow m (query_of n class k)) in
     let known = mask_known class c.in-Some.mask c.requires.1 c.in-Some.ensures.answer in
-    let query = c.query-of-digits.ensures ∙ ap (λ mask. query_of_digits n mask class i) known in
+    let query = c.query_of_digits.ensures ∙ ap (λ mask. query_of_digits n mask class i) known in
     let written : c.packed.result ≡ row i = c.packed.ensures ∙ ap pack (c.judge.ensures ∙ ap (flow m) query) in
     subst (λ (x : ℕ). (k : ℕ) → k < i + 1 → get_or (set c.loop-i.rows i x) k 0 ≡ row k) (sym written)
     (fill_by_more row c.loop-i.rows i 0 (omega arith) c.loop-i.invariant)

@@ -2,8 +2,8 @@
 use Rattle.std.proofs.Common.{◌*◌, ◌≤◌, mul-le-mul_left, arith, rules}
 use Rattle.table.proofs.digits.with_digit.Goals as goal
 
-pub overflow-add-result : goal.overflow-add-result
-overflow-add-result c =
+pub overflow_add-result : goal.overflow_add-result
+overflow_add-result c =
     let small : c.args.digits * c.args.labels ≤ c.args.digits * 255 = mul-le-mul_left c.args.digits (omega arith) in
     record { fits = omega arith }
 

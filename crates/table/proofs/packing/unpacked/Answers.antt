@@ -7,4 +7,4 @@ pub returns-then-cause-gt0 : goal.returns-then-cause-gt0
 returns-then-cause-gt0 c = unpack_cause c.args.row _
 
 pub returns : goal.returns
-returns c = ap₂ (λ x y. Ok (x, y)) c.next-tag.ensures c.result-tag.ensures ∙ unpack_grant c.args.row c.if-cause-gt0.false
+returns c = ap₂ (λ x y. Ok (x, y)) c.next_tag.ensures c.result_tag.ensures ∙ unpack_grant c.args.row c.if-cause-gt0.false

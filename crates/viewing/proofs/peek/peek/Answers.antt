@@ -4,14 +4,14 @@ use Rattle.sitting.specs.Sitting.{standing}
 use Rattle.viewing.proofs.PeekAnswers.{peek_look_refused, peek_before_end}
 use Rattle.viewing.proofs.peek.peek.Goals as goal
 
-pub returns-in-err-check-look : goal.returns-in-err-check-look
-returns-in-err-check-look g c =
-    let p = err_from_is_err_and c.from-residual.result c.from-residual.ensures.1 in
+pub returns-in_err-check_look : goal.returns-in_err-check_look
+returns-in_err-check_look g c =
+    let p = err_from_is_err_and c.from_residual.result c.from_residual.ensures.1 in
     rw (p.1, p.2)
-    (peek_look_refused (g.O.Order.meaning c.args.order.now) (standing c.args.sitting.now) c.args.image.now c.args.cells.now c.args.outputs.now c.args.at _ c.in-err-check-look.ensures)
+    (peek_look_refused (g.O.Order.meaning c.args.order.now) (standing c.args.sitting.now) c.args.image.now c.args.cells.now c.args.outputs.now c.args.at _ c.in_err-check_look.ensures)
 
-pub returns-in-err-check-end-mark : goal.returns-in-err-check-end-mark
-returns-in-err-check-end-mark g c =
-    let p = err_from_is_err_and c.from-residual-in-err-check-end-mark.result c.from-residual-in-err-check-end-mark.ensures.1 in
+pub returns-in_err-check_end_mark : goal.returns-in_err-check_end_mark
+returns-in_err-check_end_mark g c =
+    let p = err_from_is_err_and c.from_residual-in_err-check_end_mark.result c.from_residual-in_err-check_end_mark.ensures.1 in
     rw (p.1, p.2)
-    (peek_before_end (g.O.Order.meaning c.args.order.now) (standing c.args.sitting.now) c.args.image.now c.args.cells.now c.args.outputs.now c.args.at _ c.in-ok-check-look.ensures c.in-err-check-end-mark.ensures)
+    (peek_before_end (g.O.Order.meaning c.args.order.now) (standing c.args.sitting.now) c.args.image.now c.args.cells.now c.args.outputs.now c.args.at _ c.in_ok-check_look.ensures c.in_err-check_end_mark.ensures)

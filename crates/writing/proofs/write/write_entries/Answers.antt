@@ -13,16 +13,16 @@ loop-i-preserved c =
     let cells = c.args.cells.now in
     let es = entries code cells in
     let i = c.loop-i.i in
-    let e = c.entry-at.result in
+    let e = c.entry_at.result in
     let n = entries_length code cells in
     let here : i < length es = omega arith in
     let room : 8 + 6 * i ≤ length c.loop-i.buffer = omega (arith, c.requires) in
-    let is : (d : CodeEntry) → get_or es i d ≡ e = λ d. entry_is code cells i d c.loop-i-test.true ∙ sym c.entry-at.ensures in
+    let is : (d : CodeEntry) → get_or es i d ≡ e = λ d. entry_is code cells i d c.loop-i-test.true ∙ sym c.entry_at.ensures in
     let tag_fits : e.tag.0 < 65536 = omega arith in
     let bits_fit : e.bits < 4294967296 = omega arith in
     let written = one_entry_more (take 8 c.args.buffer.now) c.loop-i.buffer es i e room here (is e) c.loop-i.invariant.0 in
     let fits : CodeEntry → Type 0 = λ x. (x.tag.0 < 65536) × (x.bits < 4294967296) in (
-      subst (λ (b : List ℕ). take (8 + 6 * (i + 1)) b ≡ take 8 c.args.buffer.now ++ flat_map entry_bytes (take (i + 1) es)) (sym c.write-entry.ensures) written,
+      subst (λ (b : List ℕ). take (8 + 6 * (i + 1)) b ≡ take 8 c.args.buffer.now ++ flat_map entry_bytes (take (i + 1) es)) (sym c.write_entry.ensures) written,
       λ k d h. below_more (λ (k : ℕ). fits (get_or es k d)) i (λ k h. c.loop-i.invariant.1 k d h) (subst fits (sym (is d)) (tag_fits, bits_fit)) k h,
     )
 

@@ -6,6 +6,6 @@ use Rattle.cache.proofs.rule_cache.RuleCache.new.Goals as goal
 
 pub returns : goal.returns
 returns g c = record {
-  empty = c.empty-over.ensures;
-  means-what-the-engine-means = λ b m. subst (λ r. Means g.E.Engine.means r b) (sym c.empty-over.ensures) (new_means g.E.Engine.means c.args.engine b m);
+  empty = c.empty_over.ensures;
+  means_what_the_engine_means = λ b m. subst (λ r. Means g.E.Engine.means r b) (sym c.empty_over.ensures) (new_means g.E.Engine.means c.args.engine b m);
 }

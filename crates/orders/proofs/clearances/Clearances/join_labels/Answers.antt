@@ -13,8 +13,8 @@ fits c =
     let same : c.max-level.result * c.sets.result + bit_or c.compartments.result c.compartments-2.result ≡ clearance_join o.q c.args.a.0 c.args.b.0 = cc in
     rw same (clearance_join_fits o.p o.q c.args.a.0 c.args.b.0 o.p_fits o.q_fits (ltb-true _ bound c.requires.0) (ltb-true _ bound c.requires.1))
 
-pub overflow-add-result : goal.overflow-add-result
-overflow-add-result c = record { fits = omega (arith, fits c) }
+pub overflow_add-result : goal.overflow_add-result
+overflow_add-result c = record { fits = omega (arith, fits c) }
 
-pub overflow-cast-result : goal.overflow-cast-result
-overflow-cast-result c = record { fits = fits c }
+pub overflow_cast-result : goal.overflow_cast-result
+overflow_cast-result c = record { fits = fits c }

@@ -13,12 +13,12 @@ session_at s image cells cells' outputs outputs' page page' e f h = λ i. image_
 
 pub returns : goal.returns
 returns c =
-    let written = c.show-image-answer.new.page in
-    let whole = c.show-image-answer.auto.page ∙ c.as-mut-slice-3.ensures.len in
-    let cells = c.as-mut-slice.ensures.value ∙ c.in-ok-cells.ensures ∙ ap (λ (n : ℕ). replicate n zero_cell) c.cells_wanted.ensures in
-    let outputs = c.as-mut-slice-2.ensures.value ∙ c.in-ok-outputs.ensures in
-    let page = c.as-mut-slice-3.ensures.value ∙ c.in-ok-page.ensures in
-    let shown = c.from-answer.ensures ∙ ap (report_with c.show-image-answer.result) (take_at written _ _ whole) in
-    ap (λ x. session x (standing c.show-image-answer.new.sitting)) shown
-    ∙ c.show-image-answer.ensures
+    let written = c.show_image-answer.new.page in
+    let whole = c.show_image-answer.auto.page ∙ c.as_mut_slice-3.ensures.len in
+    let cells = c.as_mut_slice.ensures.value ∙ c.in_ok-cells.ensures ∙ ap (λ (n : ℕ). replicate n zero_cell) c.cells_wanted.ensures in
+    let outputs = c.as_mut_slice-2.ensures.value ∙ c.in_ok-outputs.ensures in
+    let page = c.as_mut_slice-3.ensures.value ∙ c.in_ok-page.ensures in
+    let shown = c.from_answer.ensures ∙ ap (report_with c.show_image-answer.result) (take_at written _ _ whole) in
+    ap (λ x. session x (standing c.show_image-answer.new.sitting)) shown
+    ∙ c.show_image-answer.ensures
     ∙ session_at (standing c.args.sitting.now) c.args.image.now _ _ _ _ _ _ cells outputs page

@@ -15,16 +15,16 @@ returns g c =
     let image = c.args.image.now in
     let cells = c.args.cells.now in
     let outputs = c.args.outputs.now in
-    let fit = sym c.lengths_fit.ensures ∙ c.if-not-lengths-fit.false in
+    let fit = sym c.lengths_fit.ensures ∙ c.if-not-lengths_fit.false in
     let cells' = c.run-outcome.new.cells in
     let outputs' = c.run-outcome.new.outputs in
     let r : Ran = ran c.run-outcome.result c.run-outcome.new.granted (state_of c.run-outcome.new.machine cells' outputs') in
-    let done : run_done (Ok c.run-outcome.new.granted) (standing c.come-to.new.self) cells' outputs' ≡ run_made s r =
-    ap (λ x. run_done (Ok c.run-outcome.new.granted) x cells' outputs') c.come-to.ensures in
+    let done : run_done (Ok c.run-outcome.new.granted) (standing c.come_to.new.self) cells' outputs' ≡ run_made s r =
+    ap (λ x. run_done (Ok c.run-outcome.new.granted) x cells' outputs') c.come_to.ensures in
     record {
       runs = run_is_made s image cells outputs c.in-Running.is fit g.E.Engine.answers c.args.budget c.args.engine.now c.run-outcome.new.engine r _ c.run-outcome.ensures.runs done;
       by_book = λ book means.
           let by = c.run-outcome.ensures.by_book book means in
           (run_is_by_book s image cells outputs c.in-Running.is fit book c.args.budget r _ by.0 done, by.1);
-      unchanged-if-refused = λ x. absurd (true≢false (sym x));
+      unchanged_if_refused = λ x. absurd (true≢false (sym x));
     }
