@@ -4,10 +4,10 @@ use Rattle.machine.specs.Frames.{latest, earlier}
 use Rattle.machine.proofs.FrameLists.{counted_fewer, taken_off}
 use Rattle.machine.proofs.frames.Frames.pop.Goals as goal
 
-pub invariant-of-self : goal.invariant-of-self
-invariant-of-self c =
+pub invariant_of-self : goal.invariant_of-self
+invariant_of-self c =
     let f = c.args.self.now in
-    (omega arith, (counted_fewer f.slots f.depth f.depth_counts, tt))
+    record { depth_fits = omega arith; depth_counts = counted_fewer f.slots f.depth f.depth_counts }
 
 pub returns : goal.returns
 returns c =
