@@ -14,7 +14,7 @@ use Rattle.viewing.specs.declared.page.Page.{Page}
 use Rattle.sitting.specs.Sitting.{Standing}
 use Rattle.sitting.specs.Open.{Opened, opened, order_found}
 use Rattle.sitting.specs.Run.{RunDone, sitting_run_by}
-use Rattle.viewing.specs.Page.{reader_of, visible_outputs, end_mark, page_refusal}
+use Rattle.viewing.specs.Page.{reader_of, visible_outputs, has_end_mark, page_refusal}
 use Rattle.screen.specs.declared.session.Report.{Report}
 use Rattle.screen.specs.declared.screen.Screen.{Screen}
 use Rattle.screen.specs.declared.screen.Screen.TheVariants.{Refused, Ran}
@@ -49,7 +49,7 @@ and_then (Err refusal) s next = session (Err refusal) s
 abbrev pub paged : Meaning → Standing → List ℕ → List Cell → List Cell → List Cell → Result Shown Refusal
 paged m s image cells outputs page =
     answer (page_refusal m s image cells outputs page)
-    (shown_of s (visible_outputs (reader_of m s) s outputs) page (end_mark (reader_of m s) s))
+    (shown_of s (visible_outputs (reader_of m s) s outputs) page (has_end_mark (reader_of m s) s))
 
 -- after an opening the sitting is run by the flow rules and paged
 abbrev pub run_and_paged : Meaning → ℕ → Opened → List ℕ → List Cell → List Cell → Session

@@ -15,7 +15,7 @@ use Rattle.viewing.specs.declared.peek.Peeked.{Peeked}
 use Rattle.viewing.specs.declared.peek.Peeked.TheVariants.{Shown, Hidden}
 use Rattle.sitting.specs.declared.sitting.Opening.{Opening}
 use Rattle.sitting.specs.Sitting.{Standing, machine_state}
-use Rattle.viewing.specs.Page.{reader_of, end_mark, look_refusal}
+use Rattle.viewing.specs.Page.{reader_of, has_end_mark, look_refusal}
 
 -- sixteen registers, and as many cells as the header counts
 abbrev pub in_range : Opening → Location → Bool
@@ -36,7 +36,7 @@ module _ (sees : Tag → Bool) where
   -- There is nothing to peek at before the end mark, whatever the number.
   abbrev pub peek_refusal_for : Meaning → Standing → List ℕ → List Cell → List Cell → Location → Option Refusal
   peek_refusal_for m s image cells outputs at =
-      look_refusal m s image cells outputs (check (end_mark sees s) NoEndMark (check (in_range s.opening at) OutOfRange None))
+      look_refusal m s image cells outputs (check (has_end_mark sees s) NoEndMark (check (in_range s.opening at) OutOfRange None))
 
   abbrev pub peek_answer_for : Meaning → Standing → List ℕ → List Cell → List Cell → Location → Result Peeked Refusal
   peek_answer_for m s image cells outputs at =

@@ -2,7 +2,7 @@
 ghost use Rattle.std.specs.Prelude.{◌≡◌, None};
 ghost use Rattle.image.specs.Load.{answer};
 ghost use Rattle.sitting.specs.Sitting.{standing};
-ghost use Rattle.viewing.specs.Page.{reader_of, end_mark, look_refusal};
+ghost use Rattle.viewing.specs.Page.{reader_of, has_end_mark, look_refusal};
 
 use labels::cell::Cell;
 use labels::order::{Order, has_name};
@@ -34,7 +34,7 @@ pub(crate) fn check_look<O: Order>(
 
 // Whether the sitting is halted and its pc tag is visible.
 pub(crate) fn end_mark<O: Order>(sitting: &Sitting, order: &O) -> bool
-    ensures { result ≡ end_mark (reader_of (O.meaning order.now) (standing sitting.now)) (standing sitting.now) }
+    ensures { result ≡ has_end_mark (reader_of (O.meaning order.now) (standing sitting.now)) (standing sitting.now) }
 {
     match sitting.state() {
         State::Halted => is_visible(order, sitting.header().reader, sitting.pc_tag()),

@@ -4,7 +4,7 @@ ghost use Rattle.labels.specs.declared.refusal.Refusal.TheVariants.{NoEndMark, O
 ghost use Rattle.image.specs.Load.{check, answer};
 ghost use Rattle.observer.specs.Observer.{shown};
 ghost use Rattle.sitting.specs.Sitting.{standing, machine_state};
-ghost use Rattle.viewing.specs.Page.{reader_of, end_mark};
+ghost use Rattle.viewing.specs.Page.{reader_of, has_end_mark};
 ghost use Rattle.viewing.specs.Peek.{in_range, cell_there, peeked, peek_answer};
 
 use crate::look::{check_look, end_mark};
@@ -47,7 +47,7 @@ pub fn peek<O: Order>(
 
 // Refused where the end mark is not set.
 fn check_end_mark<O: Order>(sitting: &Sitting, order: &O) -> Result<(), Refusal>
-    ensures { result ≡ answer (check (end_mark (reader_of (O.meaning order.now) (standing sitting.now)) (standing sitting.now)) NoEndMark None) tt }
+    ensures { result ≡ answer (check (has_end_mark (reader_of (O.meaning order.now) (standing sitting.now)) (standing sitting.now)) NoEndMark None) tt }
 {
     if end_mark(sitting, order) {
         Ok(())
