@@ -31,10 +31,6 @@ header_of image = record {
 abbrev pub counts_fit : Counts → Bool
 counts_fit n = nat_le 1 n.code && nat_le n.code 1024 && nat_le n.cells 4096
 
--- as many of both as there may be
-abbrev pub most_entries : Counts
-most_entries = record { code = 1024; cells = 4096 }
-
 abbrev pub entry_count : Counts → ℕ
 entry_count n = n.code + n.cells
 

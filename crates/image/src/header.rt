@@ -1,6 +1,6 @@
 // The header: version, order, counts and reader, in the image's first eight bytes.
 ghost use Rattle.std.specs.Prelude.{◌≡◌, ◌+◌, ◌<◌, ◌≤◌, true, length};
-ghost use Rattle.image.specs.Layout.{u16_at, counts_fit, most_entries, entry_count, length_of_image, header_of};
+ghost use Rattle.image.specs.Layout.{u16_at, counts_fit, entry_count, length_of_image, header_of};
 ghost use Rattle.image.specs.Load.{header_read, version_checked, counts_checked};
 ghost use Rattle.image.specs.declared.header.Counts.{Counts};
 
@@ -18,6 +18,10 @@ pub const ENTRY_LENGTH: usize = 6;
 pub const CODE_LIMIT: u16 = 1024;
 
 pub const CELL_LIMIT: u16 = 4096;
+
+// How many bytes the longest image has.
+pub const LONGEST_IMAGE: usize = HEADER_LENGTH
+    + ENTRY_LENGTH * (CODE_LIMIT as usize + CELL_LIMIT as usize);
 
 // How many code entries and how many cells an image has.
 #[derive(Clone, Copy)]
@@ -47,6 +51,13 @@ impl Counts {
         } else {
             Err(Refusal::CountOutsideLimits)
         }
+    }
+
+    // Whether both counts are within their limits: 1 to 1,024 code entries and at most 4,096 cells.
+    pub fn fit(self) -> bool
+        ensures { result ≡ counts_fit self }
+    {
+        Counts::new(self.code as usize, self.cells as usize).is_ok()
     }
 
     // How many entries there are, code and cells.
@@ -103,22 +114,12 @@ impl Header {
     }
 }
 
-// How many bytes the longest image has.
+// How many bytes the longest image has, as a promise.
 pub fn longest_image() -> usize
     ensures answer { result ≡ 30728 }
     ensures none_longer { (n : Counts) → counts_fit n ≡ true → length_of_image n ≤ result }
 {
-    most_entries().image_length()
-}
-
-// The most code entries and cells that an image may have.
-fn most_entries() -> Counts
-    ensures { result ≡ most_entries }
-{
-    Counts {
-        code: CODE_LIMIT,
-        cells: CELL_LIMIT,
-    }
+    LONGEST_IMAGE
 }
 
 // The two bytes from a place on as a number.

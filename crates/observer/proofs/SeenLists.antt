@@ -1,6 +1,5 @@
 -- What is seen of a list of cells, turn by turn, and what writing it leaves.
-use Rattle.std.proofs.Common.{◌≡◌, ℕ, ◌+◌, ◌<◌, ◌≤◌, Bool, List, [], ◌∷◌, ◌++◌, length, get_or, drop, set, Some, None, Option, sym, ap, ◌∙◌, add-one, arith}
-use Rattle.std.specs.Option.{option_to_list}
+use Rattle.std.proofs.Common.{◌≡◌, ℕ, ◌+◌, ◌<◌, ◌≤◌, Bool, true, false, cond, List, [], ◌∷◌, ◌++◌, length, get_or, drop, set, Some, None, Option, sym, refl, ap, ◌∙◌, add-one, arith}
 use Rattle.std.proofs.lemmas.List.{at_drop_more, at_drop_all, length-set, length-append}
 use Rattle.std.proofs.lemmas.List.Edits.{sets, sets-eq}
 use Rattle.labels.specs.declared.cell.Tag.{Tag}
@@ -19,21 +18,31 @@ writes_all page cells h =
 pub writes_at : (page page' : List Cell) (place place' : ℕ) (left written : List Cell) → page' ≡ page → place' ≡ place → Writes page place left written → Writes page' place' left written
 writes_at page page' place place' left written e f h = rw (e, f) h
 
+-- the first of some cells is kept where it is shown
+seen_first : (b : Bool) (x c : Cell) (rest : List Cell) → Some c ≡ cond b (Some x) None → cond b (x ∷ rest) rest ≡ c ∷ rest
+seen_first true x c rest e = cc
+seen_first false x c rest e = cc
+
+-- and dropped where it is not
+not_seen_first : (b : Bool) (x : Cell) (rest : List Cell) → None ≡ cond b (Some x) None → cond b (x ∷ rest) rest ≡ rest
+not_seen_first true x rest e = cc
+not_seen_first false x rest e = refl
+
 module _ (sees : Tag → Bool) where
   pub seen_length : (cs : List Cell) → length (seen_cells sees cs) ≤ length cs
   seen_length [] = omega arith
-  seen_length (c ∷ cs) = go (shown sees c) (seen_length cs)
+  seen_length (c ∷ cs) = go (sees c.tag) (seen_length cs)
     where
-      go : (x : Option Cell) → length (seen_cells sees cs) ≤ length cs → length (option_to_list x ++ seen_cells sees cs) ≤ length (c ∷ cs)
-      go (Some d) h = omega (arith, h)
-      go None h = omega (arith, h)
+      go : (b : Bool) → length (seen_cells sees cs) ≤ length cs → length (cond b (c ∷ seen_cells sees cs) (seen_cells sees cs)) ≤ length (c ∷ cs)
+      go true h = omega (arith, h)
+      go false h = omega (arith, h)
 
   module _ (cs : List Cell) (i : ℕ) (d : Cell) where
     pub seen_here : (c : Cell) → i < length cs → Some c ≡ shown sees (get_or cs i d) → seen_cells sees (drop i cs) ≡ c ∷ seen_cells sees (drop (i + 1) cs)
-    seen_here c h e = at_drop_more (seen_cells sees) cs i d h ∙ ap (λ (x : Option Cell). option_to_list x ++ seen_cells sees (drop (i + 1) cs)) (sym e)
+    seen_here c h e = at_drop_more (seen_cells sees) cs i d h ∙ seen_first (sees (get_or cs i d).tag) (get_or cs i d) c (seen_cells sees (drop (i + 1) cs)) e
 
     pub not_seen_here : i < length cs → None ≡ shown sees (get_or cs i d) → seen_cells sees (drop i cs) ≡ seen_cells sees (drop (i + 1) cs)
-    not_seen_here h e = at_drop_more (seen_cells sees) cs i d h ∙ ap (λ (x : Option Cell). option_to_list x ++ seen_cells sees (drop (i + 1) cs)) (sym e)
+    not_seen_here h e = at_drop_more (seen_cells sees) cs i d h ∙ not_seen_first (sees (get_or cs i d).tag) (get_or cs i d) (seen_cells sees (drop (i + 1) cs)) e
 
   pub none_left : (cs : List Cell) (i : ℕ) → length cs ≤ i → seen_cells sees (drop i cs) ≡ []
   none_left cs i h = at_drop_all (seen_cells sees) cs i h

@@ -1,7 +1,7 @@
 -- What an instruction does under a seen pc tag takes the view to the observer's machine's next view.
 use Rattle.std.proofs.Common.{◌≡◌, ℕ, ◌+◌, Bool, true, false, cond, eqb, List, [], ◌∷◌, ◌++◌, map, take, set, None, Ok, Option, sym, refl, ap, ◌∙◌}
 use lib.Seq.{map-set, map-set_same}
-use Rattle.std.specs.Option.{option_to_list}
+use Rattle.std.proofs.lemmas.List.Elements.{filter-append}
 use Rattle.labels.specs.Order.{Meaning, Laws}
 use Rattle.labels.specs.declared.cell.Tag.{Tag}
 use Rattle.labels.specs.declared.cell.Cell.{Cell}
@@ -17,12 +17,12 @@ use Rattle.machine.specs.declared.frames.Frame.{Frame}
 use Rattle.machine.specs.Frames.{latest_tag}
 use Rattle.machine.specs.Machine.{cell, zero_cell, register}
 use Rattle.machine.specs.Effect.{MachineState, address, cell_at, fault, on_to, advance, write_register, with_frames, return_by, holding, progress}
-use Rattle.observer.specs.Observer.{Downward, shown, seen_cells}
+use Rattle.observer.specs.Observer.{Downward, shown, sees_cell, seen_cells}
 use Rattle.observer.specs.View.{view, at_pc, resumption, place_of, seen_frames}
 use Rattle.observer.specs.ObserverMachine.{if_seen, seen_at, move_to, with_register, join3, act}
 use Rattle.observer.specs.ObserverLaws.{has_halted}
 use Rattle.observer.proofs.Unseen.{unseen_above, this, later, unseen_join}
-use Rattle.observer.proofs.Views.{equal_views, one_more_output, blank, seen_append, seen_place, unseen_place, return_place, tell_at}
+use Rattle.observer.proofs.Views.{equal_views, one_more_output, blank, seen_place, unseen_place, return_place, tell_at}
 use Rattle.observer.proofs.Asked.{query_by_class, effect_by_rule}
 
 module _ (sees : Tag → Bool) (s : MachineState) where
@@ -117,10 +117,10 @@ module _ (m : Meaning) (laws : Laws m) (sees : Tag → Bool) (down : Downward m 
       let before = take s.held.outputs s.output_places in
       let new = cell (register s.held i.a).word (joined m q (A ∷ P ∷ [])) in
       equal_views refl refl
-      (ap (seen_cells sees) (one_more_output s new i f) ∙ seen_append sees before (new ∷ [])
+      (ap (seen_cells sees) (one_more_output s new i f) ∙ filter-append (sees_cell sees) before (new ∷ [])
       ∙ ap (λ (more : List Cell). seen_cells sees before ++ more)
       (tell_at sees s.held.registers i.a [] (λ c. seen_cells sees (cell c.word (m.join c.tag s.held.pc_tag) ∷ []))
-      (λ n. ap (λ (x : Option Cell). option_to_list x ++ []) (blank sees new (unseen_join m laws sees down q 36 u (A ∷ P ∷ []) refl (this n))))))
+      (λ n. ap (λ (b : Bool). cond b (new ∷ []) []) (unseen_join m laws sees down q 36 u (A ∷ P ∷ []) refl (this n)))))
       (seen_place sees (s.held.pc + 1) s.held.pc_tag (frames_seen sees s) h) refl
   seen_effect Raise f h u k =
       let q = query_by_class Raise i t s in

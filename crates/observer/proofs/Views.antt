@@ -1,7 +1,7 @@
 -- What an observer sees of lists, places and single cells.
-use Rattle.std.proofs.Common.{◌≡◌, ℕ, ◌+◌, Bool, true, false, cond, List, [], ◌∷◌, ◌++◌, map, get_or, take, set, Some, None, Option, sym, refl, ap, ◌∙◌, append_assoc, append-nil, add-one, arith, take-suc-set}
+use Rattle.std.proofs.Common.{◌≡◌, ℕ, ◌+◌, Bool, true, false, cond, List, [], ◌∷◌, ◌++◌, map, get_or, take, set, Some, None, Option, sym, refl, ap, ◌∙◌, append-nil, add-one, arith, take-suc-set}
 use lib.ListN.{get_or-map}
-use Rattle.std.specs.Option.{option_to_list}
+use Rattle.std.proofs.lemmas.List.Elements.{filter-append}
 use Rattle.labels.specs.declared.cell.Tag.{Tag}
 use Rattle.labels.specs.declared.cell.Cell.{Cell}
 use Rattle.instructions.specs.declared.instruction.Instruction.{Instruction}
@@ -9,7 +9,7 @@ use Rattle.instructions.specs.declared.instruction.Class.TheVariants.{Out}
 use Rattle.machine.specs.declared.frames.Frame.{Frame}
 use Rattle.machine.specs.Machine.{zero_cell}
 use Rattle.machine.specs.Effect.{MachineState, fault}
-use Rattle.observer.specs.Observer.{shown, seen_cells}
+use Rattle.observer.specs.Observer.{shown, sees_cell, seen_cells}
 use Rattle.observer.specs.View.{View, at_pc, resumption, seen_frames, place_of}
 use Rattle.observer.specs.ObserverMachine.{if_seen, seen_at}
 
@@ -24,13 +24,9 @@ module _ (sees : Tag → Bool) where
   pub blank : (c : Cell) → sees c.tag ≡ false → shown sees c ≡ None
   blank c h = ap (λ (b : Bool). cond b (Some c) None) h
 
-  pub seen_append : (cs ds : List Cell) → seen_cells sees (cs ++ ds) ≡ seen_cells sees cs ++ seen_cells sees ds
-  seen_append [] ds = refl
-  seen_append (c ∷ cs) ds = ap (λ (xs : List Cell). option_to_list (shown sees c) ++ xs) (seen_append cs ds) ∙ sym (append_assoc (option_to_list (shown sees c)) (seen_cells sees cs) (seen_cells sees ds))
-
   pub not_added : (cs : List Cell) (c : Cell) → sees c.tag ≡ false → seen_cells sees (cs ++ (c ∷ [])) ≡ seen_cells sees cs
   not_added cs c h =
-      seen_append cs (c ∷ []) ∙ ap (λ (x : Option Cell). seen_cells sees cs ++ (option_to_list x ++ [])) (blank c h) ∙ append-nil (seen_cells sees cs)
+      filter-append (sees_cell sees) cs (c ∷ []) ∙ ap (λ (b : Bool). seen_cells sees cs ++ cond b (c ∷ []) []) h ∙ append-nil (seen_cells sees cs)
 
   pub seen_place : (pc : ℕ) (t : Tag) (fs : List Frame) → sees t ≡ true → place_of sees pc t fs ≡ at_pc pc t fs
   seen_place pc t fs h = ap (λ (b : Bool). cond b (at_pc pc t fs) (resumption fs)) h

@@ -1,6 +1,5 @@
 -- Observers: which tags they see, what they see of cells, and which cells are alike to them.
-use Rattle.std.specs.Prelude.{◌≡◌, ℕ, ◌<◌, Bool, true, false, cond, ◌⊎◌, List, [], ◌∷◌, ◌++◌, length, Some, None, Option}
-use Rattle.std.specs.Option.{option_to_list}
+use Rattle.std.specs.Prelude.{◌≡◌, ℕ, ◌<◌, Bool, true, false, cond, ◌⊎◌, List, length, Some, None, filter, Option}
 use Rattle.labels.specs.Order.{Meaning, Flows}
 use Rattle.labels.specs.declared.cell.Tag.{Tag}
 use Rattle.labels.specs.declared.cell.Cell.{Cell}
@@ -19,10 +18,12 @@ reader m label t = m.flows t label
 abbrev pub shown : (Tag → Bool) → Cell → Option Cell
 shown sees c = cond (sees c.tag) (Some c) None
 
--- what is shown of some cells, in their order
+abbrev pub sees_cell : (Tag → Bool) → Cell → Bool
+sees_cell sees c = sees c.tag
+
+-- the seen ones among some cells, in their order
 abbrev pub seen_cells : (Tag → Bool) → List Cell → List Cell
-seen_cells sees [] = []
-seen_cells sees (c ∷ cs) = option_to_list (shown sees c) ++ seen_cells sees cs
+seen_cells sees cs = filter (sees_cell sees) cs
 
 -- Two cells are alike to an observer if he sees neither tag, or if tags and words are equal.
 abbrev pub Alike : (Tag → Bool) → Cell → Cell → Type 0

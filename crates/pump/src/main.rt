@@ -45,7 +45,7 @@ fn run(rt: &HostRuntime) -> anyhow::Result<()> {
     let limit = longest_image() as u64 + 1;
     rt.stdin().take(limit).read_to_end(&mut image)?;
     let mut sitting = Sitting::new();
-    let screen = Screen::new(rt.alloc(), &mut sitting, image.as_slice())?;
+    let screen = Screen::of_sitting(rt.alloc(), &mut sitting, image.as_slice())?;
     println!(rt; "{screen}")?;
     settle(rt, sitting, path)
 }

@@ -1,5 +1,6 @@
 -- What is shown where a call of a session is refused, and where all are granted.
-use Rattle.std.proofs.Common.{◌≡◌, ℕ, Bool, List, length, Some, None, Ok, Err, Option, Result, sym, ap, ◌∙◌}
+use Rattle.std.proofs.Common.{◌≡◌, ℕ, Bool, List, length, Some, None, Ok, Err, Option, Result, sym, refl, ap, ◌∙◌}
+use Rattle.std.proofs.lemmas.List.{take_at}
 use Rattle.labels.specs.Order.{Meaning}
 use Rattle.labels.specs.declared.cell.Cell.{Cell}
 use Rattle.labels.specs.declared.refusal.Refusal.{Refusal}
@@ -38,6 +39,7 @@ module _ (m : Meaning) (budget : ℕ) (image : List ℕ) (page : List Cell) wher
       by_refusal None h w =
           ap (λ r. page_shown s counts r list) h
           ∙ ap (page_shown s counts (Ok granted)) w
+          ∙ ap (λ (v : List Cell). Ok (record { visible = v; page = written_over visible page; outputs = length visible; end_mark = mark; state = s.state; pc = s.machine.pc; steps = s.machine.steps })) (take_at visible _ _ refl)
 
   module _ (cells outputs : List Cell) (s s₁ : Standing) (cells₁ : List Cell) where
     abbrev OpeningCameTo : Result (Unit {0}) Refusal → Type 0

@@ -1,5 +1,5 @@
 -- What the program shows of an image.
-use Rattle.std.specs.Prelude.{ℕ, Bool, cond, List, length, replicate, Ok, Err, vec_items, Result, nat_le}
+use Rattle.std.specs.Prelude.{ℕ, Bool, cond, List, length, take, replicate, Ok, Err, vec_items, Result, nat_le}
 use Rattle.labels.specs.Order.{Meaning}
 use Rattle.labels.specs.declared.cell.Cell.{Cell}
 use Rattle.labels.specs.declared.refusal.Refusal.{Refusal}
@@ -11,7 +11,7 @@ use Rattle.machine.specs.Machine.{zero_cell}
 use Rattle.observer.specs.Visible.{written_over}
 use Rattle.sitting.specs.declared.sitting.State.{State}
 use Rattle.viewing.specs.declared.page.Page.{Page}
-use Rattle.sitting.specs.Sitting.{Standing}
+use Rattle.sitting.specs.Sitting.{Standing, blank}
 use Rattle.sitting.specs.Open.{Opened, opened, order_found}
 use Rattle.sitting.specs.Run.{RunDone, sitting_run_by}
 use Rattle.viewing.specs.Page.{reader_of, visible_outputs, has_end_mark, page_refusal}
@@ -21,6 +21,7 @@ use Rattle.screen.specs.declared.screen.Screen.TheVariants.{Refused, Ran}
 
 -- What is shown of a sitting, but for the counts of its cache: its page, its state, pc and steps.
 pub record Shown : Type 0 where
+  pub visible : List Cell
   -- the page list, and how many visible outputs stand at its front
   pub page : List Cell
   pub outputs : ℕ
@@ -30,7 +31,7 @@ pub record Shown : Type 0 where
   pub steps : ℕ
 
 abbrev pub shown_of : Standing → List Cell → List Cell → Bool → Shown
-shown_of s visible page mark = record { page = written_over visible page; outputs = length visible; end_mark = mark; state = s.state; pc = s.machine.pc; steps = s.machine.steps }
+shown_of s visible page mark = record { visible = visible; page = written_over visible page; outputs = length visible; end_mark = mark; state = s.state; pc = s.machine.pc; steps = s.machine.steps }
 
 -- what a session comes to: what is shown, and where its sitting then stands
 pub record Session : Type 0 where
@@ -75,8 +76,24 @@ abbrev pub cells_wanted : List ℕ → ℕ
 cells_wanted image = cond (nat_le 8 (length image)) (header_of image).counts.cells 0
 
 -- There is memory for as many cells as the header asks for, and for 256 outputs.
-abbrev pub screen_of : Standing → List ℕ → Session
-screen_of s image = image_session s image (replicate (cells_wanted image) zero_cell) (replicate 256 zero_cell) (replicate 256 zero_cell)
+abbrev pub screen_session : Standing → List ℕ → Session
+screen_session s image = image_session s image (replicate (cells_wanted image) zero_cell) (replicate 256 zero_cell) (replicate 256 zero_cell)
+
+-- What is shown of an image in an order: a new sitting is opened, run with a budget, and paged.
+abbrev pub sitting_shown : Meaning → ℕ → List ℕ → List Cell → List Cell → List Cell → Result Shown Refusal
+sitting_shown m budget image cells outputs page = (session_in m budget blank image cells outputs page).shown
+
+abbrev pub shown_in : Result Meaning Refusal → ℕ → List ℕ → List Cell → List Cell → List Cell → Result Shown Refusal
+shown_in (Ok m) budget image cells outputs page = sitting_shown m budget image cells outputs page
+shown_in (Err refusal) budget image cells outputs page = Err refusal
+
+-- What is shown of an image in the order that its header names, of 100,000 steps at most.
+abbrev pub image_shown : List ℕ → List Cell → List Cell → List Cell → Result Shown Refusal
+image_shown image cells outputs page = shown_in (order_found blank image) 100000 image cells outputs page
+
+-- the same in the memory that there is
+abbrev pub screen_of : List ℕ → Result Shown Refusal
+screen_of image = image_shown image (replicate (cells_wanted image) zero_cell) (replicate 256 zero_cell) (replicate 256 zero_cell)
 
 -- how a sitting stands, with its page and the counts of its cache
 abbrev pub report_of : Standing → Page → Counts → Report
@@ -84,7 +101,7 @@ report_of s page counts = record { page = page; state = s.state; pc = s.machine.
 
 -- what a report shows with its page list
 abbrev pub report_shown : Report → List Cell → Shown
-report_shown r page = record { page = page; outputs = r.page.outputs; end_mark = r.page.end_mark; state = r.state; pc = r.pc; steps = r.steps }
+report_shown r page = record { visible = take r.page.outputs page; page = page; outputs = r.page.outputs; end_mark = r.page.end_mark; state = r.state; pc = r.pc; steps = r.steps }
 
 abbrev pub report_with : Result Report Refusal → List Cell → Result Shown Refusal
 report_with (Ok r) page = Ok (report_shown r page)

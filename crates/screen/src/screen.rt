@@ -2,7 +2,7 @@
 ghost use Rattle.std.specs.Prelude.{◌≡◌, replicate, IfOk};
 ghost use Rattle.machine.specs.Machine.{zero_cell};
 ghost use Rattle.sitting.specs.Sitting.{standing};
-ghost use Rattle.screen.specs.Screen.{report_with, shown_on, session, cells_wanted, screen_of};
+ghost use Rattle.screen.specs.Screen.{report_with, shown_on, session, cells_wanted, screen_session, screen_of};
 
 use crate::session::{Report, show_image};
 use image::header::Header;
@@ -22,10 +22,22 @@ pub enum Screen {
 }
 
 impl Screen {
-    // Opens a sitting with an image of any bytes in the order that its header names, runs it and pages it. The contract
-    // fixes where the sitting then stands, and all that is shown but for the counts of the cache, which it leaves free.
-    pub fn new(heap: Global, sitting: &mut Sitting, image: &[u8]) -> Result<Screen, AllocError>
-        ensures { IfOk result (λ s. session (shown_on s) (standing sitting.new) ≡ screen_of (standing sitting.old) image.now) }
+    // Opens an image of any bytes in the order that its header names, runs it and pages it. The contract fixes all that is
+    // shown but for the counts of the cache, which it leaves free.
+    pub fn new(heap: Global, image: &[u8]) -> Result<Screen, AllocError>
+        ensures { IfOk result (λ s. shown_on s ≡ screen_of image.now) }
+    {
+        let mut sitting = Sitting::new();
+        Screen::of_sitting(heap, &mut sitting, image)
+    }
+
+    // The same with a sitting that is handed in. The contract fixes where it then stands, too.
+    pub fn of_sitting(
+        heap: Global,
+        sitting: &mut Sitting,
+        image: &[u8],
+    ) -> Result<Screen, AllocError>
+        ensures { IfOk result (λ s. session (shown_on s) (standing sitting.new) ≡ screen_session (standing sitting.old) image.now) }
     {
         let mut cells = zero_cells(heap, cells_wanted(image))?;
         let mut outputs = output_places(heap)?;

@@ -8,7 +8,6 @@ ghost use Rattle.std.specs.Prelude.{◌<◌, IfOk};
 
 use anyhow::anyhow;
 use screen::screen::Screen;
-use sitting::sitting::Sitting;
 use std::alloc::Global;
 use std::io::{BufRead, BufReader};
 
@@ -59,7 +58,7 @@ fn run(rt: &HostRuntime) -> anyhow::Result<()> {
         match line.as_str().strip_prefix("image") {
             Some(words) => {
                 let image = image_of(heap, words)?;
-                let screen = Screen::new(heap, &mut Sitting::new(), image.as_slice())?;
+                let screen = Screen::new(heap, image.as_slice())?;
                 println!(rt; "{screen}\n")?;
             }
             None => println!(rt; "{line}")?,

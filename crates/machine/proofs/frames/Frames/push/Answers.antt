@@ -8,7 +8,7 @@ invariant_of-self c =
     let f = c.args.self.now in
     record {
       depth_fits = omega arith;
-      depth_counts = counted (set f.slots f.depth c.args.frame) (f.depth + 1) (simp length-set (omega arith))
+      depth_counts = counted (set f.slots f.depth c.args.frame) (f.depth + 1) (simp length-set (omega arith));
     }
 
 pub returns : goal.returns

@@ -5,7 +5,7 @@ use Rattle.labels.specs.declared.cell.Cell.{Cell}
 use Rattle.machine.specs.Machine.{zero_cell}
 use Rattle.sitting.specs.Sitting.{Standing, standing}
 use Rattle.screen.specs.Screen.{report_with, session, image_session, cells_wanted}
-use Rattle.screen.proofs.screen.Screen.new.Goals as goal
+use Rattle.screen.proofs.screen.Screen.of_sitting.Goals as goal
 
 -- a session depends on the lists alone
 session_at : (s : Standing) (image : List ℕ) (cells cells' outputs outputs' page page' : List Cell) → cells ≡ cells' → outputs ≡ outputs' → page ≡ page' → image_session s image cells outputs page ≡ image_session s image cells' outputs' page'
