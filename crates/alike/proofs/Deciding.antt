@@ -1,12 +1,12 @@
 -- No difference is found exactly where two images are alike.
-use Rattle.std.proofs.Common.{◌≡◌, ℕ, zero, suc, ◌+◌, ◌<◌, Bool, true, false, cond, not, ◌&&◌, ◌||◌, eqb, ◌⊎◌, List, [], ◌∷◌, length, get_or, Some, None, Option, sym, refl, ap, ◌∙◌, subst, ap₂, inl, inr, ⊎_elim, arith}
-use Rattle.std.proofs.lemmas.Bool.{and_parts, and_from, or_cases, or_left, or_right, not-true, not_from_false, eqb-true, eq-eqb, cases_Bool, cond-true}
+use Rattle.std.proofs.Common.{◌≡◌, ℕ, zero, suc, ◌+◌, ◌<◌, Bool, true, false, cond, not, ◌&&◌, eqb, List, [], ◌∷◌, length, Some, None, Option, refl, ap, ◌∙◌, subst, ap₂, inl, inr, ⊎_elim, arith}
+use Rattle.std.proofs.lemmas.Bool.{and_parts, and_from, or_cases, or_left, or_right, not-true, not_from_false, eqb-true, eq-eqb, cond-true}
 use Rattle.labels.specs.Order.{Meaning, tag}
 use Rattle.labels.specs.declared.cell.Tag.{Tag}
 use Rattle.labels.specs.declared.cell.Cell.{Cell}
 use Rattle.image.specs.declared.entry.CodeEntry.{CodeEntry}
 use Rattle.image.specs.Layout.{header_of, code_of, cells_of}
-use Rattle.machine.specs.Machine.{word, cell, zero_cell}
+use Rattle.machine.specs.Machine.{word}
 use Rattle.machine.specs.Effect.{cell_at}
 use Rattle.observer.specs.Observer.{reader, Alike, AlikeCells}
 use Rattle.examiner.specs.Guarantee.{AlikeImages}

@@ -1,5 +1,5 @@
 -- A table of sixty-four records.
-use Rattle.std.specs.Prelude.{◌≡◌, ℕ, replicate, slice_set}
+use Rattle.std.specs.Prelude.{ℕ, replicate, slice_set}
 use Rattle.std.proofs.Common.{◌∙◌, length-set}
 use Rattle.std.proofs.lemmas.List.{length-replicate}
 use Rattle.cache.specs.declared.lines.Lines.{Lines}

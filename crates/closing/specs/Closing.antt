@@ -1,5 +1,5 @@
 -- What closing a sitting gives, the twelve bytes of its record, and what filing does.
-use Rattle.std.specs.Prelude.{ℕ, ◌+◌, ◌*◌, ◌/◌, ◌%◌, true, false, cond, List, [], ◌∷◌, ◌++◌, length, Ok, Err, Result, ◌==◌}
+use Rattle.std.specs.Prelude.{ℕ, ◌+◌, ◌*◌, ◌/◌, ◌%◌, false, cond, List, [], ◌∷◌, ◌++◌, length, Ok, Err, Result, ◌==◌}
 use Rattle.labels.specs.declared.refusal.Refusal.TheVariants.{WrongSlotLength}
 use Rattle.machine.specs.Fault.{fault_number}
 use Rattle.sitting.specs.declared.sitting.State.{State}

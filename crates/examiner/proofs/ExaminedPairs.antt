@@ -1,5 +1,5 @@
 -- Two sides over alike images: the pages are never different.
-use Rattle.std.proofs.Common.{◌≡◌, ℕ, List, [], ◌∷◌, ◌++◌, take, Some, None, Ok, Err, Option, Result, sym, refl, subst, inl, inr, arith}
+use Rattle.std.proofs.Common.{◌≡◌, ℕ, List, [], ◌++◌, take, Some, None, Ok, Err, Result, sym, refl, subst, inl, inr, arith}
 use Rattle.labels.specs.Order.{Meaning}
 use Rattle.labels.specs.declared.cell.Cell.{Cell}
 use Rattle.labels.specs.declared.refusal.Refusal.{Refusal}
@@ -11,7 +11,6 @@ use Rattle.examiner.specs.History.{Memory, PageSeen, Side, memory_after_open, pa
 use Rattle.examiner.specs.Guarantee.{AlikeImages, AlikeIfOpened, In, Agree, Guarantee}
 use Rattle.examiner.specs.Comparison.{compared}
 use Rattle.examiner.specs.Examined.{memory, opened_with, SideDone, IsHistory, pages_compared}
-use Rattle.examiner.specs.declared.compare.Comparison.{Comparison}
 use Rattle.examiner.specs.declared.compare.Comparison.TheVariants.{Different}
 use Rattle.examiner.proofs.Comparisons.{never_different}
 

@@ -2,7 +2,6 @@
 use Rattle.std.specs.Prelude.{ℕ, ◌+◌, ◌*◌, ◌/◌, ◌%◌, Bool, ◌&&◌, List, map, nat_le, slice_index}
 use Rattle.std.specs.List.{range_with_len}
 use Rattle.labels.specs.Order.{tag}
-use Rattle.labels.specs.declared.cell.Word.{Word}
 use Rattle.labels.specs.declared.cell.Tag.{Tag}
 use Rattle.labels.specs.declared.cell.Cell.{Cell}
 use Rattle.image.specs.declared.header.Counts.{Counts}

@@ -1,5 +1,5 @@
 -- Writing what is seen of some cells to the front of a list.
-use Rattle.std.specs.Prelude.{ℕ, List, ◌++◌, length, drop, None, Option, nat_le}
+use Rattle.std.specs.Prelude.{List, ◌++◌, length, drop, None, Option, nat_le}
 use Rattle.labels.specs.declared.cell.Cell.{Cell}
 use Rattle.labels.specs.declared.refusal.Refusal.{Refusal}
 use Rattle.labels.specs.declared.refusal.Refusal.TheVariants.{WrongLength}

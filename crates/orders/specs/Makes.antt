@@ -1,7 +1,6 @@
 -- The makes of order, and the order that a name stands for.
-use Rattle.std.specs.Prelude.{ℕ, ◌+◌, ◌*◌, ◌/◌, ◌%◌, ◌^◌, max, Bool, true, false, cond, ◌&&◌, leb, Ok, Err, Result, ◌==◌, bit_and, bit_or, nat_le, nat_lt}
+use Rattle.std.specs.Prelude.{ℕ, ◌+◌, ◌*◌, ◌/◌, ◌%◌, ◌^◌, max, Bool, cond, ◌&&◌, leb, Ok, Err, Result, ◌==◌, bit_and, bit_or, nat_le, nat_lt}
 use Rattle.labels.specs.Order.{Meaning, tag}
-use Rattle.labels.specs.declared.cell.Tag.{Tag}
 use Rattle.labels.specs.declared.name.Parameters.{Parameters}
 use Rattle.labels.specs.declared.name.OrderName.{OrderName}
 use Rattle.labels.specs.declared.refusal.Refusal.{Refusal}

@@ -1,5 +1,5 @@
 -- The flow rules judge a query with its unused tags cleared alike.
-use Rattle.std.proofs.Common.{◌≡◌, ℕ, ◌<◌, Bool, true, false, refl, ap, ◌∙◌, ⊎_elim, arith}
+use Rattle.std.proofs.Common.{◌≡◌, ℕ, ◌<◌, true, false, refl, ap, ◌∙◌, ⊎_elim, arith}
 use Rattle.std.proofs.lemmas.Bool.{cases_Bool, cond-true, cond-false, leb-true}
 use Rattle.labels.specs.Order.{Meaning}
 use Rattle.labels.specs.declared.cell.Tag.{Tag}

@@ -1,5 +1,5 @@
 -- What the flow rules come to, case by case; and that a grant's tags are labels.
-use Rattle.std.proofs.Common.{◌≡◌, ℕ, ◌<◌, Bool, true, false, cond, not, ◌&&◌, ◌||◌, eqb, List, [], ◌∷◌, Ok, Err, sym, refl, subst, ⊎_elim, arith}
+use Rattle.std.proofs.Common.{◌≡◌, ℕ, ◌<◌, Bool, true, false, not, ◌&&◌, ◌||◌, eqb, List, [], ◌∷◌, Ok, Err, sym, refl, subst, ⊎_elim, arith}
 use lib.Bits.{bit_and}
 use Rattle.std.proofs.lemmas.Bool.{true≢false, and_parts, and_from, cond_both, cases_Bool, leb-true}
 use Rattle.labels.specs.Order.{Meaning, Laws, Label}

@@ -9,7 +9,7 @@ use Rattle.rules.specs.Flow.{flow}
 use Rattle.cache.specs.declared.rule_cache.Counts.{Counts}
 use Rattle.viewing.specs.declared.page.Page.{Page}
 use Rattle.sitting.specs.Sitting.{Standing}
-use Rattle.sitting.specs.Open.{Opened, after_call, opened}
+use Rattle.sitting.specs.Open.{after_call, opened}
 use Rattle.sitting.specs.Run.{RunDone, sitting_run_by}
 use Rattle.observer.specs.Visible.{written_over}
 use Rattle.viewing.specs.Page.{reader_of, visible_outputs, has_end_mark, page_refusal, page_answer, page_written}

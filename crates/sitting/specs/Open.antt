@@ -1,14 +1,13 @@
 -- What opening does: its checks in their order, and what then stands.
-use Rattle.std.specs.Prelude.{ℕ, Bool, true, false, List, length, Some, None, Ok, Err, Option, Result, ◌==◌, nat_le}
+use Rattle.std.specs.Prelude.{ℕ, List, length, Some, None, Ok, Err, Option, Result, ◌==◌, nat_le}
 use Rattle.labels.specs.Order.{Meaning}
 use Rattle.orders.specs.Makes.{order_named}
 use Rattle.labels.specs.declared.cell.Cell.{Cell}
 use Rattle.labels.specs.declared.refusal.Refusal.{Refusal}
 use Rattle.labels.specs.declared.refusal.Refusal.TheVariants.{ImageTooShort, UnknownVersion, WrongState}
 use Rattle.image.specs.Layout.{header_of, cells_of}
-use Rattle.image.specs.Load.{check, answer, unless_refused, load_refusal}
+use Rattle.image.specs.Load.{check, answer, load_refusal}
 use Rattle.machine.specs.Machine.{start}
-use Rattle.sitting.specs.declared.sitting.State.{State}
 use Rattle.sitting.specs.declared.sitting.State.TheVariants.{Running}
 use Rattle.sitting.specs.Sitting.{Standing, is_blank}
 

@@ -1,18 +1,16 @@
 -- A table over compiled rows judges as the flow rules do.
-use Rattle.std.proofs.Common.{◌≡◌, ℕ, zero, suc, ◌+◌, ◌-◌, ◌<◌, ◌≤◌, Bool, true, false, ◌&&◌, eqb, leb, List, ◌++◌, length, get_or, take, Ok, Err, sym, refl, ap, ◌∙◌, subst, ap₂, ⊎_elim, add-one, arith, length-append}
+use Rattle.std.proofs.Common.{◌≡◌, ℕ, zero, suc, ◌+◌, ◌-◌, ◌<◌, ◌≤◌, true, false, ◌&&◌, eqb, leb, List, ◌++◌, length, get_or, take, Ok, Err, sym, refl, ap, ◌∙◌, subst, ap₂, ⊎_elim, add-one, arith, length-append}
 use borrow.Rule.Slice.PartMut.{put_mid}
 use Rattle.std.proofs.lemmas.Slice.{take-put_mid}
-use Rattle.std.specs.List.{range_with_len}
 use Rattle.std.proofs.lemmas.Bool.{cases_Bool, cases_lt, and_parts, cond-true, cond-false, leb-true, lt-ltb, true≢false}
 use Rattle.std.proofs.lemmas.List.{get_or_append_left, get_or-append_right, take_all}
 use Rattle.std.proofs.lemmas.List.FromFn.{get_or-map-range_with_len, length-map-range_with_len}
 use Rattle.labels.specs.Order.{Meaning, Laws}
-use Rattle.labels.specs.declared.cell.Tag.{Tag}
 use Rattle.labels.specs.declared.refusal.Refusal.TheVariants.{WrongTableSize}
 use Rattle.rules.specs.Book.{Verdict}
 use Rattle.rules.specs.Rules.{rule, ruled}
-use Rattle.rules.specs.Flow.{each_used, caused, flow}
-use Rattle.rules.specs.Cleared.{cleared_by, cleared}
+use Rattle.rules.specs.Flow.{each_used, flow}
+use Rattle.rules.specs.Cleared.{cleared_by}
 use Rattle.rules.specs.declared.query.Query.{Query}
 use Rattle.rules.proofs.Cleared.{judged_alike}
 use Rattle.rules.proofs.Judged.{used_weaker, flow_no_class, flow_no_label, GrantsLabels, flow_grants_labels}
@@ -21,7 +19,7 @@ use Rattle.table.specs.Numbering.{class_size, class_start, row_count, number, qu
 use Rattle.table.specs.Layout.{layout_for, row_of}
 use Rattle.table.specs.Table.{below, table_book, size_fits}
 use Rattle.table.specs.Compiled.{class_rows, rows_below, compiled, compile_answer, compile_rows}
-use Rattle.table.proofs.RowCounts.{start_more, start_rises, getD_starts, row_count_is}
+use Rattle.table.proofs.RowCounts.{start_more, start_rises, class_starts_at, row_count_is}
 use Rattle.table.proofs.RowNumbers.{number_in_class, query_back}
 use Rattle.table.proofs.PackedRows.{Small, unpack_pack}
 
@@ -82,7 +80,7 @@ row_judged m laws few q h l =
     let n : ℕ = m.bound in
     let mask : ℕ = (rule q.class).mask in
     let low : q.class ≤ 13 = leb-true q.class 13 h in
-    let start : row_of (layout_for n) q ≡ class_start n q.class + number n mask q = ap (λ s. s + number n mask q) (getD_starts n q.class (omega arith)) in
+    let start : row_of (layout_for n) q ≡ class_start n q.class + number n mask q = ap (λ s. s + number n mask q) (class_starts_at n q.class (omega arith)) in
     let read : get_or (compiled m) (row_of (layout_for n) q) 0 ≡ pack (flow m (query_of n q.class (number n mask q))) =
     ap (λ r. get_or (compiled m) r 0) start ∙ get_d_rows n m 14 q.class (number n mask q) (omega arith) (number_in_class n q low l) in
     let same : flow m (query_of n q.class (number n mask q)) ≡ flow m q =

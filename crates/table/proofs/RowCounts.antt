@@ -38,16 +38,16 @@ start_rises n j zero h = let e : j ≡ 0 = omega arith in rw e (omega arith)
 start_rises n j (suc k) h =
     ⊎_elim (λ lt. omega (arith, start_rises n j k (omega arith))) (λ (ge : suc k ≤ j). let e : j ≡ suc k = omega arith in rw e (omega arith)) (cases_lt j (suc k))
 
-pub getD_starts : (n k : ℕ) → k < 15 → get_or (class_starts n) k 0 ≡ class_start n k
+pub class_starts_at : (n k : ℕ) → k < 15 → get_or (class_starts n) k 0 ≡ class_start n k
 unfolding class_starts
-getD_starts n k h = get_or-map-range_with_len (class_start n) 0 15 k k 0 h (omega arith)
+class_starts_at n k h = get_or-map-range_with_len (class_start n) 0 15 k k 0 h (omega arith)
 
 pub start_known : (l : Layout) (k : ℕ) → l ≡ layout_for l.labels → k < 15 → get_or l.starts k 0 ≡ class_start l.labels k
-start_known l k e h = ap (λ x. get_or x.starts k 0) e ∙ getD_starts l.labels k h
+start_known l k e h = ap (λ x. get_or x.starts k 0) e ∙ class_starts_at l.labels k h
 
 pub last_start : (n : ℕ) → get_or (class_starts n) 14 0 ≡ row_count n
 unfolding row_count
-last_start n = getD_starts n 14 (omega arith)
+last_start n = class_starts_at n 14 (omega arith)
 
 -- the mask that the code has is the rule's
 pub mask_known : (class mask : ℕ) → class ≤ 13 → Some mask ≡ mask_of class → mask ≡ (rule class).mask

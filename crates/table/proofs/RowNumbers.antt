@@ -1,5 +1,5 @@
 -- Digits put together and taken apart again: the query of a query's row is the query with its unused tags cleared.
-use Rattle.std.proofs.Common.{◌≡◌, ℕ, suc, ◌+◌, ◌*◌, ◌/◌, ◌%◌, ◌^◌, ◌<◌, ◌≤◌, Bool, true, false, cond, ◌||◌, eqb, ltb, sym, refl, ap, ◌∙◌, add-zero, pow-suc, add-one, arith}
+use Rattle.std.proofs.Common.{◌≡◌, ℕ, ◌+◌, ◌*◌, ◌/◌, ◌%◌, ◌^◌, ◌<◌, ◌≤◌, Bool, true, false, cond, ◌||◌, eqb, ltb, refl, ap, ◌∙◌, add-zero, pow-suc, add-one, arith}
 use native.Mathlib.Nat.{pow-zero}
 use lib.Count.{ones, ones_in}
 use lib.Bits.{bit_and}
@@ -12,7 +12,7 @@ use Rattle.rules.specs.Flow.{unused_or, each_used}
 use Rattle.rules.specs.Cleared.{kept, cleared_by}
 use Rattle.rules.specs.declared.query.Query.{Query}
 use Rattle.rules.proofs.Classes.{each_below}
-use Rattle.rules.proofs.Judged.{Used, used_parts}
+use Rattle.rules.proofs.Judged.{used_parts}
 use Rattle.table.specs.Numbering.{class_size, digit, number, last_digit, digits_before, query_of_digits}
 use Rattle.table.specs.Table.{below}
 

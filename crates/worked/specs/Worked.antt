@@ -1,5 +1,5 @@
 -- The worked values: questions about orders, rules, rows and shifts, each with its answer.
-use Rattle.std.specs.Prelude.{◌≡◌, ℕ, Bool, true, false, List, [], ◌∷◌, map, Ok, Err, slice_index}
+use Rattle.std.specs.Prelude.{◌≡◌, ℕ, Bool, true, false, List, [], ◌∷◌, map, Ok, slice_index}
 use Rattle.labels.specs.Order.{Meaning, tag}
 use Rattle.orders.specs.Makes.{two_point, barred_sets, clearances}
 use Rattle.rules.specs.Book.{Verdict}

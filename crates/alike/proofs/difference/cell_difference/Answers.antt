@@ -1,5 +1,5 @@
 -- Alike cells lead to the next, others are the difference, and at the end the counts decide.
-use Rattle.std.proofs.Common.{◌≡◌, ℕ, ◌+◌, ◌<◌, min, true, false, sym, ap, ◌∙◌, ap₂, arith}
+use Rattle.std.proofs.Common.{◌≡◌, ℕ, ◌+◌, min, true, false, sym, ap, ◌∙◌, ap₂, arith}
 use Rattle.labels.specs.declared.cell.Cell.{Cell}
 use Rattle.image.specs.Layout.{header_of, cell_entry_at}
 use Rattle.observer.specs.Observer.{reader}

@@ -1,5 +1,5 @@
 -- The loop over the cells: what is alike so far leaves the difference to the rest.
-use Rattle.std.proofs.Common.{◌≡◌, ℕ, ◌+◌}
+use Rattle.std.proofs.Common.{◌≡◌, ◌+◌}
 use Rattle.image.specs.Layout.{header_of, cells_of, cell_entry_at}
 use Rattle.observer.specs.Observer.{reader}
 use Rattle.alike.specs.Difference.{first_difference, alike_to}

@@ -1,5 +1,5 @@
 -- The same entry leads to the next, another is the difference, and at the end the counts decide.
-use Rattle.std.proofs.Common.{◌≡◌, ◌<◌, min, true, false, sym, ap, ◌∙◌, ap₂, arith}
+use Rattle.std.proofs.Common.{◌≡◌, min, true, false, sym, ◌∙◌, ap₂, arith}
 use Rattle.image.specs.Layout.{header_of, code_entry_at}
 use Rattle.alike.specs.Difference.{same_entry, end_difference}
 use Rattle.alike.proofs.Places.{same_here, other_here, at_the_end}

@@ -1,5 +1,5 @@
 -- No difference is found exactly where the images are alike.
-use Rattle.std.proofs.Common.{◌≡◌, sym, ◌∙◌}
+use Rattle.std.proofs.Common.{sym, ◌∙◌}
 use Rattle.alike.proofs.Deciding.{none_means_alike, alike_means_none}
 use Rattle.alike.proofs.difference.find_difference.Goals as goal
 

@@ -1,8 +1,7 @@
 -- Both caches are new and mean the flow rules.
-use Rattle.std.proofs.Common.{◌≡◌, Some, sym, ap, ◌∙◌, subst}
+use Rattle.std.proofs.Common.{◌≡◌, sym, ap, ◌∙◌, subst}
 use Rattle.examiner.specs.Examined.{memory, side_of, pages_compared}
 use Rattle.examiner.specs.Caches.{SideExaminedWithCache}
-use Rattle.examiner.specs.declared.compare.Comparison.TheVariants.{Different}
 use Rattle.examiner.specs.declared.examine.Examined.{Examined}
 use Rattle.examiner.proofs.ExaminedCaches.{side_with_cache}
 use Rattle.examiner.proofs.caches.examine_with_caches.Goals as goal

@@ -1,5 +1,5 @@
 -- Both sides as they were examined, and the guarantee about them.
-use Rattle.std.proofs.Common.{◌≡◌, sym, ap, ◌∙◌, subst}
+use Rattle.std.proofs.Common.{sym, ap, ◌∙◌, subst}
 use Rattle.examiner.specs.Examined.{memory, side_of, SideExamined, pages_compared}
 use Rattle.examiner.specs.declared.side.SideSeen.{SideSeen}
 use Rattle.examiner.proofs.ExaminedPairs.{sides_not_different}

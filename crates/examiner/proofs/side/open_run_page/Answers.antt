@@ -1,5 +1,5 @@
 -- A refused open ends the calls; after a granted one the run is made, and the page comes last.
-use Rattle.std.proofs.Common.{◌≡◌, Err, ap, ◌∙◌}
+use Rattle.std.proofs.Common.{Err, ap, ◌∙◌}
 use Rattle.std.proofs.lemmas.Result.{err_from_is_err_and}
 use Rattle.sitting.specs.Sitting.{standing}
 use Rattle.sitting.specs.Run.{run_done}

@@ -1,5 +1,5 @@
 -- The loop over the entries: the check from here on is the whole check.
-use Rattle.std.proofs.Common.{◌≡◌, ◌+◌}
+use Rattle.std.proofs.Common.{◌≡◌}
 use Rattle.image.specs.Load.{entry_tags, entries_refusal}
 use Rattle.image.proofs.TagChecks.{from_here}
 use Rattle.loading.proofs.load.check_entries.Given as goal

@@ -1,7 +1,6 @@
 -- An image that loads is opened by a blank sitting.
-use Rattle.std.proofs.Common.{◌≡◌, ℕ, List, length, refl, ap, ◌∙◌}
+use Rattle.std.proofs.Common.{length, refl, ap, ◌∙◌}
 use Rattle.labels.specs.Order.{Meaning}
-use Rattle.labels.specs.declared.cell.Cell.{Cell}
 use Rattle.image.specs.declared.header.Header.{Header}
 use Rattle.image.specs.Load.{load_refusal}
 use Rattle.sitting.specs.Sitting.{blank}

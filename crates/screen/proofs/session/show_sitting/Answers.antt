@@ -1,5 +1,5 @@
 -- The first refusal is shown, or what the page came to.
-use Rattle.std.proofs.Common.{◌≡◌, Ok, refl, ap, ◌∙◌}
+use Rattle.std.proofs.Common.{Ok, refl, ap, ◌∙◌}
 use Rattle.std.proofs.lemmas.Result.{err_from_is_err_and}
 use Rattle.rules.specs.Flow.{flow}
 use Rattle.sitting.specs.Sitting.{standing}

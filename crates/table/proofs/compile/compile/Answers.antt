@@ -1,5 +1,5 @@
 -- A table over the compiled rows means the flow rules.
-use Rattle.std.proofs.Common.{◌≡◌, sym, ◌∙◌, ap₂}
+use Rattle.std.proofs.Common.{sym, ◌∙◌, ap₂}
 use Rattle.table.specs.Table.{table_book}
 use Rattle.table.proofs.CompiledRows.{compile_judges}
 use Rattle.table.proofs.compile.compile.Goals as goal

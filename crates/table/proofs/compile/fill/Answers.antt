@@ -1,5 +1,5 @@
 -- Each class fills the part of the rows that is its own.
-use Rattle.std.proofs.Common.{◌≡◌, length, refl, ◌∙◌, arith, length-drop, length-take, rules}
+use Rattle.std.proofs.Common.{length, refl, ◌∙◌, arith, length-drop, length-take, rules}
 use Rattle.table.specs.Compiled.{rows_below}
 use Rattle.table.proofs.RowCounts.{Part, part_of}
 use Rattle.table.proofs.CompiledRows.{filled_more, filled_all}

@@ -1,5 +1,5 @@
 -- The rows of the classes below the one at hand are filled.
-use Rattle.std.proofs.Common.{◌≡◌, ℕ, ◌<◌, take}
+use Rattle.std.proofs.Common.{◌≡◌, take}
 use Rattle.table.specs.Numbering.{class_start}
 use Rattle.table.specs.Compiled.{rows_below}
 use Rattle.table.proofs.compile.fill.Given as goal

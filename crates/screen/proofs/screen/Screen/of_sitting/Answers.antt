@@ -4,7 +4,7 @@ use Rattle.std.proofs.lemmas.List.{take_at}
 use Rattle.labels.specs.declared.cell.Cell.{Cell}
 use Rattle.machine.specs.Machine.{zero_cell}
 use Rattle.sitting.specs.Sitting.{Standing, standing}
-use Rattle.screen.specs.Screen.{report_with, session, image_session, cells_wanted}
+use Rattle.screen.specs.Screen.{report_with, session, image_session}
 use Rattle.screen.proofs.screen.Screen.of_sitting.Goals as goal
 
 -- a session depends on the lists alone

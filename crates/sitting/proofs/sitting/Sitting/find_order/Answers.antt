@@ -1,5 +1,5 @@
 -- The checks have passed, so the order is the one that the header names.
-use Rattle.std.proofs.Common.{◌≡◌, Some, None, Ok, Err, Option, sym, ap, ◌∙◌}
+use Rattle.std.proofs.Common.{◌≡◌, Some, None, Ok, Option, ap, ◌∙◌}
 use Rattle.orders.specs.Makes.{order_named}
 use Rattle.labels.specs.declared.refusal.Refusal.{Refusal}
 use Rattle.image.specs.declared.header.Header.{Header}

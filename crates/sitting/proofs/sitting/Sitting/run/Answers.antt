@@ -1,7 +1,6 @@
 -- The run of the machine is the sitting's.
-use Rattle.std.proofs.Common.{◌≡◌, true, false, Ok, sym, ap, ◌∙◌}
+use Rattle.std.proofs.Common.{◌≡◌, Ok, sym, ap, ◌∙◌}
 use Rattle.std.proofs.lemmas.Bool.{true≢false}
-use Rattle.machine.specs.Machine.{held}
 use Rattle.machine.specs.Effect.{state_of}
 use Rattle.execution.specs.Run.{Ran, ran}
 use Rattle.sitting.specs.Sitting.{standing}
