@@ -14,7 +14,7 @@ Downward m sees = (a b : Tag) → Flows m a b → sees b ≡ true → sees a ≡
 abbrev pub reader : Meaning → Tag → Tag → Bool
 reader m label t = m.flows t label
 
--- What is shown of a cell, on a page and by a peek: word and tag if the tag is seen, else neither.
+-- A cell whose tag is seen is seen whole, any other is blank: neither its word nor its tag is seen.
 abbrev pub shown : (Tag → Bool) → Cell → Option Cell
 shown sees c = cond (sees c.tag) (Some c) None
 

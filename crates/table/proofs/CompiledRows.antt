@@ -35,15 +35,15 @@ module _ (n : ℕ) (m : Meaning) where
       omega (arith, length-append (rows_below n m k) (class_rows n m k), length_rows k)
 
   -- row i of a class, among the rows of the classes below some class
-  get_d_rows : (top k i : ℕ) → k < top → i < class_size n k → get_or (rows_below n m top) (class_start n k + i) 0 ≡ row_at k i
+  class_rows_at : (top k i : ℕ) → k < top → i < class_size n k → get_or (rows_below n m top) (class_start n k + i) 0 ≡ row_at k i
   unfolding rows_below
-  get_d_rows zero k i h l = absurd (omega arith)
-  get_d_rows (suc top) k i h l =
+  class_rows_at zero k i h l = absurd (omega arith)
+  class_rows_at (suc top) k i h l =
       let long = length_rows top in
       ⊎_elim
       (λ (lt : k < top).
       let rises = start_rises n (suc k) top lt in
-      get_or_append_left (rows_below n m top) (class_rows n m top) 0 (class_start n k + i) (omega arith) ∙ get_d_rows top k i lt l)
+      get_or_append_left (rows_below n m top) (class_rows n m top) 0 (class_start n k + i) (omega arith) ∙ class_rows_at top k i lt l)
       (λ (ge : top ≤ k).
       let same : top ≡ k = omega arith in
       let here : get_or (rows_below n m (suc top)) (class_start n top + i) 0 ≡ row_at top i =
@@ -82,7 +82,7 @@ row_judged m laws few q h l =
     let low : q.class ≤ 13 = leb-true q.class 13 h in
     let start : row_of (layout_for n) q ≡ class_start n q.class + number n mask q = ap (λ s. s + number n mask q) (class_starts_at n q.class (omega arith)) in
     let read : get_or (compiled m) (row_of (layout_for n) q) 0 ≡ pack (flow m (query_of n q.class (number n mask q))) =
-    ap (λ r. get_or (compiled m) r 0) start ∙ get_d_rows n m 14 q.class (number n mask q) (omega arith) (number_in_class n q low l) in
+    ap (λ r. get_or (compiled m) r 0) start ∙ class_rows_at n m 14 q.class (number n mask q) (omega arith) (number_in_class n q low l) in
     let same : flow m (query_of n q.class (number n mask q)) ≡ flow m q =
     ap (flow m) (query_back n mask q l ∙ sym (cond-true (ruled q.class) (cleared_by mask q) q h)) ∙ judged_alike m q in
     ap unpack (read ∙ ap pack same) ∙ unpack_pack (flow m q) (grants_small m laws few (flow m q) (flow_grants_labels m laws q))
