@@ -1,3 +1,4 @@
 -- The lemmas that this crate's proofs share.
 mod Places
+mod Bytes
 mod Deciding

@@ -1,5 +1,6 @@
 -- Where two images differ for their reader.
-use Rattle.std.specs.Prelude.{ℕ, ◌+◌, min, Bool, cond, not, ◌&&◌, ◌||◌, List, [], ◌∷◌, Some, None, Option, ◌==◌}
+use Rattle.std.specs.Prelude.{◌≡◌, ℕ, ◌+◌, min, Bool, cond, not, ◌&&◌, ◌||◌, List, [], ◌∷◌, Some, None, Option, ◌==◌}
+use Rattle.std.specs.List.{range_with_len}
 use Rattle.labels.specs.Order.{Meaning}
 use Rattle.labels.specs.declared.cell.Tag.{Tag}
 use Rattle.labels.specs.declared.cell.Cell.{Cell}
@@ -15,6 +16,14 @@ first_difference same place [] [] = None
 first_difference same place [] (y ∷ ys) = Some place
 first_difference same place (x ∷ xs) [] = Some place
 first_difference same place (x ∷ xs) (y ∷ ys) = cond (same x y) (first_difference same (place + 1) xs ys) (Some place)
+
+-- the first place where two lists of these lengths are not the same, if a test of the place tells where they are
+abbrev pub first_other : (ℕ → Bool) → ℕ → ℕ → Option ℕ
+first_other same_at n m = first_difference (λ place other. same_at place) 0 (range_with_len 0 n) (range_with_len 0 m)
+
+-- what a call may answer is what a test of the place says
+abbrev pub Computes : (ℕ → Bool → Type 0) → (ℕ → Bool) → Type 0
+Computes answers test = (place : ℕ) (r : Bool) → answers place r → r ≡ test place
 
 -- lists that are the same as far as both go differ where the shorter one ends
 abbrev pub end_difference : ℕ → ℕ → Option ℕ

@@ -1,15 +1,14 @@
 // Where two images differ for their reader.
-ghost use Rattle.std.specs.Prelude.{◌≡◌, None};
+ghost use Rattle.std.specs.Prelude.{◌≡◌, ℕ, Bool, None};
 ghost use Rattle.image.specs.Layout.{code_of, cells_of};
-ghost use Rattle.observer.specs.Observer.{reader};
+ghost use Rattle.observer.specs.Observer.{observer_of};
 ghost use Rattle.examiner.specs.Guarantee.{AlikeImages};
-ghost use Rattle.alike.specs.Difference.{first_difference, end_difference, same_entry, alike_to, difference_of};
+ghost use Rattle.alike.specs.Difference.{Computes, first_difference, first_other, end_difference, same_entry, alike_to, difference_of};
 
-use crate::read::{cell_at, code_entry_at, u16_at};
-use image::entry::CodeEntry;
-use labels::cell::{Cell, Tag};
+use crate::read::{read_cell, read_entry, read_header};
+use labels::cell::Cell;
 use labels::order::Order;
-use observer::reader::is_visible;
+use observer::reader::Reader;
 
 // The first thing in which they differ: the reader, a code entry or a cell, by its number from 0.
 #[derive(Clone, Copy)]
@@ -20,6 +19,7 @@ pub enum Difference {
 }
 
 // The first difference of two images, of any bytes, for their reader; none if they are alike to him.
+#[tactic(auto, using(crate::proofs::Deciding::none_means_alike, crate::proofs::Deciding::alike_means_none))]
 pub fn find_difference<O: Order>(order: &O, left: &[u8], right: &[u8]) -> Option<Difference>
     ensures answer { result ≡ difference_of (O.meaning order.now) left.now right.now }
     ensures none_means_alike { result ≡ None → AlikeImages (O.meaning order.now) left.now right.now }
@@ -32,12 +32,12 @@ pub fn find_difference<O: Order>(order: &O, left: &[u8], right: &[u8]) -> Option
 fn first_difference<O: Order>(order: &O, left: &[u8], right: &[u8]) -> Option<Difference>
     ensures { result ≡ difference_of (O.meaning order.now) left.now right.now }
 {
-    let label = Tag(u16_at(left, 6));
-    if label.0 != u16_at(right, 6) {
+    let label = read_header(left).reader;
+    if label != read_header(right).reader {
         return Some(Difference::Reader);
     }
     let in_code = code_difference(left, right);
-    let in_cells = cell_difference(order, label, left, right);
+    let in_cells = cell_difference(&Reader::new(order, label), left, right);
     match (in_code, in_cells) {
         (Some(place), _) => Some(Difference::CodeEntry(place)),
         (None, Some(place)) => Some(Difference::Cell(place)),
@@ -45,39 +45,41 @@ fn first_difference<O: Order>(order: &O, left: &[u8], right: &[u8]) -> Option<Di
     }
 }
 
+// The first code entry that is another one, or where the shorter code ends.
 fn code_difference(left: &[u8], right: &[u8]) -> Option<usize>
     ensures { result ≡ first_difference same_entry 0 (code_of left.now) (code_of right.now) }
 {
-    let left_count = u16_at(left, 2) as usize;
-    let right_count = u16_at(right, 2) as usize;
-    let shared = left_count.min(right_count);
-    for i in 0..shared {
-        if !same_entry(code_entry_at(left, i), code_entry_at(right, i)) {
-            return Some(i);
-        }
-    }
-    end_difference(left_count, right_count)
+    let left_count = read_header(left).counts.code;
+    let right_count = read_header(right).counts.code;
+    first_other(left_count, right_count, |place| {
+        read_entry(left, u32::from(place)) == read_entry(right, u32::from(place))
+    })
 }
 
-fn cell_difference<O: Order>(order: &O, label: Tag, left: &[u8], right: &[u8]) -> Option<usize>
-    ensures { result ≡ first_difference (alike_to (reader (O.meaning order.now) label)) 0 (cells_of left.now) (cells_of right.now) }
+// The first cell that is not alike to the reader, or where the shorter list of cells ends.
+fn cell_difference<O: Order>(reader: &Reader<O>, left: &[u8], right: &[u8]) -> Option<usize>
+    ensures { result ≡ first_difference (alike_to (observer_of O.meaning reader.now)) 0 (cells_of left.now) (cells_of right.now) }
 {
-    let left_code = u16_at(left, 2) as usize;
-    let right_code = u16_at(right, 2) as usize;
-    let left_count = u16_at(left, 4) as usize;
-    let right_count = u16_at(right, 4) as usize;
-    let shared = left_count.min(right_count);
-    for i in 0..shared {
-        if !alike_to(
-            order,
-            label,
-            cell_at(left, left_code + i),
-            cell_at(right, right_code + i),
-        ) {
-            return Some(i);
-        }
+    let left_counts = read_header(left).counts;
+    let right_counts = read_header(right).counts;
+    first_other(left_counts.cells, right_counts.cells, |place| {
+        let left_cell = read_cell(left, left_counts.code, place);
+        let right_cell = read_cell(right, right_counts.code, place);
+        alike_to(reader, left_cell, right_cell)
+    })
+}
+
+// The first place at which two lists are not the same, or where the shorter one ends. They are asked by place: an entry
+// past the end of an image reads as 0, so there are no lists to go over.
+fn first_other<F: Fn(u16) -> bool>(left_count: u16, right_count: u16, same: F) -> Option<usize>
+    requires { F.IsAlwaysCallable same }
+    ensures { (same_at : ℕ → Bool) → Computes (F.post same) same_at → result ≡ first_other same_at left_count right_count }
+{
+    let other = (0..left_count.min(right_count)).find(|place| !same(*place));
+    match other {
+        Some(place) => Some(place as usize),
+        None => end_difference(left_count as usize, right_count as usize),
     }
-    end_difference(left_count, right_count)
 }
 
 // Lists that are the same as far as both go differ where the shorter one ends.
@@ -91,16 +93,9 @@ fn end_difference(left_count: usize, right_count: usize) -> Option<usize>
     }
 }
 
-fn same_entry(left: CodeEntry, right: CodeEntry) -> bool
-    ensures { result ≡ same_entry left right }
-{
-    left.tag.0 == right.tag.0 && left.bits == right.bits
-}
-
 // Neither tag is visible, or tags and words are equal.
-fn alike_to<O: Order>(order: &O, label: Tag, left: Cell, right: Cell) -> bool
-    ensures { result ≡ alike_to (reader (O.meaning order.now) label) left right }
+fn alike_to<O: Order>(reader: &Reader<O>, left: Cell, right: Cell) -> bool
+    ensures { result ≡ alike_to (observer_of O.meaning reader.now) left right }
 {
-    !is_visible(order, label, left.tag) && !is_visible(order, label, right.tag)
-        || left.tag.0 == right.tag.0 && left.word.0 == right.word.0
+    !reader.sees(left.tag) && !reader.sees(right.tag) || left == right
 }

@@ -2,4 +2,5 @@
 #![tactic(auto)]
 
 pub mod difference;
+mod display;
 mod read;

@@ -1,48 +1,35 @@
 // Reading any bytes as an image; what lies past the end reads as 0.
-ghost use Rattle.std.specs.Prelude.{◌≡◌, ◌^◌, ◌<◌, slice_index};
-ghost use Rattle.image.specs.Layout.{u16_at, u32_at, code_entry_at, cell_entry_at};
+ghost use Rattle.std.specs.Prelude.{◌≡◌, ℕ, ◌+◌, ◌^◌, ◌<◌, slice_index};
+ghost use Rattle.image.specs.Layout.{header_of, code_entry_at, cell_entry_at};
 
 use image::entry::CodeEntry;
-use labels::cell::{Cell, Tag, Word};
+use image::header::{ENTRY_LENGTH, HEADER_LENGTH, Header};
+use labels::cell::Cell;
 
-fn byte_at(bytes: &[u8], at: usize) -> u8
-    ensures { result ≡ slice_index bytes.now at }
+// So many bytes from a place on.
+fn bytes_at<const N: usize>(image: &[u8], at: usize) -> [u8; N]
+    requires { at < 2 ^ 63 }
+    ensures { (k : ℕ) → k < N → slice_index result k ≡ slice_index image.now (at + k) }
 {
-    if at < bytes.len() { bytes[at] } else { 0 }
+    std::array::from_fn(|i| image.get(at + i).copied().unwrap_or(0))
 }
 
-pub(crate) fn u16_at(bytes: &[u8], at: usize) -> u16
-    requires { at < 2 ^ 32 }
-    ensures { result ≡ u16_at bytes.now at }
+pub(crate) fn read_header(image: &[u8]) -> Header
+    ensures { result ≡ header_of image.now }
 {
-    u16::from(byte_at(bytes, at)) * 256 + u16::from(byte_at(bytes, at + 1))
+    Header::from(bytes_at(image, 0))
 }
 
-fn u32_at(bytes: &[u8], at: usize) -> u32
-    requires { at < 2 ^ 31 }
-    ensures { result ≡ u32_at bytes.now at }
-{
-    u32::from(u16_at(bytes, at)) * 65536 + u32::from(u16_at(bytes, at + 2))
-}
-
-// The entry of a number as code.
-pub(crate) fn code_entry_at(image: &[u8], number: usize) -> CodeEntry
-    requires { number < 2 ^ 20 }
+// The entry of a number.
+pub(crate) fn read_entry(image: &[u8], number: u32) -> CodeEntry
     ensures { result ≡ code_entry_at image.now number }
 {
-    CodeEntry {
-        tag: Tag(u16_at(image, 8 + 6 * number)),
-        bits: u32_at(image, 8 + 6 * number + 2),
-    }
+    CodeEntry::from(bytes_at(image, HEADER_LENGTH + ENTRY_LENGTH * number as usize))
 }
 
-// The entry of a number as a cell.
-pub(crate) fn cell_at(image: &[u8], number: usize) -> Cell
-    requires { number < 2 ^ 20 }
-    ensures { result ≡ cell_entry_at image.now number }
+// The cell of a number, behind so many code entries.
+pub(crate) fn read_cell(image: &[u8], code: u16, number: u16) -> Cell
+    ensures { result ≡ cell_entry_at image.now (code + number) }
 {
-    Cell {
-        word: Word(u32_at(image, 8 + 6 * number + 2)),
-        tag: Tag(u16_at(image, 8 + 6 * number)),
-    }
+    Cell::from(read_entry(image, u32::from(code) + u32::from(number)))
 }

@@ -1,8 +1,8 @@
-// The calls of a case, with what each answers written to its transcript.
-use crate::case::Case;
+// The calls of a script, with what each answers written to a transcript.
 use crate::engines::Work;
-use crate::script::Call;
-use closing::close::close;
+use crate::script::{Call, Script};
+use crate::session::{OUTPUT_PLACES, Session};
+use crate::transcript::{Answer, Transcript};
 use closing::record::{ClosingRecord, RefusedFiling};
 use labels::cell::{Cell, Tag, Word};
 use labels::name::OrderName;
@@ -10,13 +10,7 @@ use labels::order::Order;
 use labels::refusal::Refusal;
 use orders::named::NamedOrder;
 use rules::engine::Engine;
-use sitting::sitting::Sitting;
-use viewing::page::Page;
-use viewing::paging;
-use viewing::peek::{Location, Peeked, peek};
-
-// How many records a page list has at most.
-const PAGE_LENGTH: usize = 256;
+use viewing::peek::Location;
 
 // What a page list holds before it is written.
 const UNWRITTEN: Cell = Cell {
@@ -27,22 +21,22 @@ const UNWRITTEN: Cell = Cell {
 // How long a slot for a closing record is at most.
 const SLOT_LENGTH: usize = 16;
 
-impl<'s, 't> Work for Case<'s, 't> {
-    // Makes the calls of the script.
-    fn perform<O: Order, E: Engine>(
-        &mut self,
-        order: &O,
-        engine: &mut E,
-        sitting: &mut Sitting,
-        image: &[u8],
-        cells: &mut [Cell],
-        outputs: &mut [Cell],
-    ) {
-        for _ in 0..self.script.len() {
-            let Some(call) = self.take_call() else {
-                return;
-            };
-            self.answer(call, order, engine, sitting, image, cells, outputs);
+// Makes the calls of a script, up to a closing.
+#[derive(Drop)]
+pub(crate) struct Calls<'s, 'w, 't> {
+    pub(crate) script: Script<'s>,
+    pub(crate) transcript: &'w mut Transcript<'t>,
+}
+
+impl Work for Calls<'_, '_, '_> {
+    type Answer = ();
+
+    fn perform<O: Order, E: Engine>(self, order: &O, engine: &mut E, session: &mut Session) {
+        let Calls { script, transcript } = self;
+        for call in script {
+            if let Err(refusal) = transcript.answer(call, order, engine, session) {
+                transcript.write_refusal(refusal);
+            }
             if let Call::Close { length: _ } = call {
                 return;
             }
@@ -50,145 +44,90 @@ impl<'s, 't> Work for Case<'s, 't> {
     }
 }
 
-impl<'s, 't> Case<'s, 't> {
-    // Makes one call.
+impl Transcript<'_> {
+    // Makes one call, and writes what it answers, unless it is refused.
     fn answer<O: Order, E: Engine>(
         &mut self,
         call: Call,
         order: &O,
         engine: &mut E,
-        sitting: &mut Sitting,
-        image: &[u8],
-        cells: &mut [Cell],
-        outputs: &mut [Cell],
-    ) {
+        session: &mut Session,
+    ) -> Result<(), Refusal> {
         match call {
-            Call::Open => self.write_opened(sitting.open(order, image, cells, outputs)),
+            Call::Open => {
+                session.open(order)?;
+                self.write_answer(Answer::Opened);
+                Ok(())
+            }
             Call::Run { budget } => {
-                self.write_ran(sitting.run(engine, budget, image, cells, outputs))
-            }
-            Call::Page { length } => {
-                self.page(order, sitting, image, cells, outputs, length as usize)
-            }
-            Call::PeekRegister { number } => {
-                let at = Location::RegisterNumber(number);
-                self.write_peeked(peek(sitting, order, image, cells, outputs, at))
-            }
-            Call::PeekCell { number } => {
-                let at = Location::CellNumber(number);
-                self.write_peeked(peek(sitting, order, image, cells, outputs, at))
-            }
-            Call::Close { length } => self.close(sitting, length as usize),
-            Call::PageIn { name } => self.page_in(name, sitting, image, cells, outputs),
-            Call::PageShorter { by } => {
-                let places = outputs.len() - outputs.len().min(by as usize);
-                let outputs = &outputs[0..places];
-                self.page(order, sitting, image, cells, outputs, PAGE_LENGTH)
-            }
-        }
-    }
-
-    fn write_opened(&mut self, answer: Result<(), Refusal>) {
-        match answer {
-            Ok(()) => self.write_byte(0),
-            Err(refusal) => self.write_refusal(refusal),
-        }
-    }
-
-    fn write_ran(&mut self, answer: Result<u32, Refusal>) {
-        match answer {
-            Ok(granted) => {
-                self.write_byte(1);
+                let granted = session.run(engine, budget)?;
+                self.write_answer(Answer::Ran);
                 self.write_word(granted);
+                Ok(())
             }
-            Err(refusal) => self.write_refusal(refusal),
+            Call::Page { length } => self.page(session, order, 0, length as usize),
+            Call::PeekRegister { number } => {
+                self.peek(session, order, Location::RegisterNumber(number))
+            }
+            Call::PeekCell { number } => self.peek(session, order, Location::CellNumber(number)),
+            Call::Close { length } => {
+                self.file(session.close(), length as usize);
+                Ok(())
+            }
+            Call::PageIn { name } => self.page_in(session, name),
+            Call::PageShorter { by } => self.page(session, order, by as usize, OUTPUT_PLACES),
         }
     }
 
-    fn write_page(&mut self, answer: Result<Page, Refusal>, list: &[Cell]) {
-        match answer {
-            Ok(page) => {
-                self.write_byte(2);
-                self.write_short((page.outputs % 65536) as u16);
-                self.write_byte(page.end_mark as u8);
-                self.write_cells(list);
-            }
-            Err(refusal) => self.write_refusal(refusal),
-        }
-    }
-
-    fn write_peeked(&mut self, answer: Result<Peeked, Refusal>) {
-        match answer {
-            Ok(Peeked::Shown(cell)) => {
-                self.write_bytes(&[3, 1]);
-                self.write_cell(cell);
-            }
-            Ok(Peeked::Hidden) => self.write_bytes(&[3, 0]),
-            Err(refusal) => self.write_refusal(refusal),
-        }
-    }
-
-    // A page with a page list of a length.
+    // A page with so many output places fewer, into a list of a length.
     fn page<O: Order>(
         &mut self,
+        session: &Session,
         order: &O,
-        sitting: &Sitting,
-        image: &[u8],
-        cells: &[Cell],
-        outputs: &[Cell],
+        fewer: usize,
         length: usize,
-    ) {
-        let mut list = [UNWRITTEN; PAGE_LENGTH];
-        let list = &mut list[0..length.min(PAGE_LENGTH)];
-        let answer = paging::page(sitting, order, image, cells, outputs, list);
-        self.write_page(answer, list);
+    ) -> Result<(), Refusal> {
+        let mut list = [UNWRITTEN; OUTPUT_PLACES];
+        let list = &mut list[..length.min(OUTPUT_PLACES)];
+        let page = session.page(order, fewer, list)?;
+        self.write_answer(Answer::Paged);
+        self.write_short(page.outputs.min(OUTPUT_PLACES) as u16);
+        self.write_byte(u8::from(page.end_mark));
+        self.write_cells(list);
+        Ok(())
     }
 
-    // A page in the order that a name stands for.
-    fn page_in(
+    // A page in the order that a name stands for. An arm for each make of order, since no closure is generic in a type.
+    fn page_in(&mut self, session: &Session, name: OrderName) -> Result<(), Refusal> {
+        match NamedOrder::try_from(name)? {
+            NamedOrder::TwoPoint(order) => self.page(session, &order, 0, OUTPUT_PLACES),
+            NamedOrder::BarredSets(order) => self.page(session, &order, 0, OUTPUT_PLACES),
+            NamedOrder::Clearances(order) => self.page(session, &order, 0, OUTPUT_PLACES),
+        }
+    }
+
+    fn peek<O: Order>(
         &mut self,
-        name: OrderName,
-        sitting: &Sitting,
-        image: &[u8],
-        cells: &[Cell],
-        outputs: &[Cell],
-    ) {
-        let order = match NamedOrder::new(name) {
-            Ok(order) => order,
-            Err(refusal) => return self.write_refusal(refusal),
-        };
-        match order {
-            NamedOrder::TwoPoint(order) => {
-                self.page(&order, sitting, image, cells, outputs, PAGE_LENGTH)
-            }
-            NamedOrder::BarredSets(order) => {
-                self.page(&order, sitting, image, cells, outputs, PAGE_LENGTH)
-            }
-            NamedOrder::Clearances(order) => {
-                self.page(&order, sitting, image, cells, outputs, PAGE_LENGTH)
-            }
+        session: &Session,
+        order: &O,
+        at: Location,
+    ) -> Result<(), Refusal> {
+        let shown = session.peek(order, at)?;
+        self.write_answer(Answer::Peeked);
+        self.write_byte(u8::from(shown.is_some()));
+        if let Some(cell) = shown {
+            self.write_cell(cell);
         }
+        Ok(())
     }
 
-    // Closes the sitting, in whose place a new one stands, and files the record into a slot of a length.
-    fn close(&mut self, sitting: &mut Sitting, length: usize) {
+    // Files a record into a slot of a length, or strikes it out where that is refused.
+    fn file(&mut self, record: ClosingRecord, length: usize) {
         let mut slot = [0xEE; SLOT_LENGTH];
-        let slot = &mut slot[0..length.min(SLOT_LENGTH)];
-        let record = close(std::mem::replace(sitting, Sitting::new()));
-        let filed = file_or_strike(record, slot);
-        self.write_bytes(&[5, filed as u8]);
+        let slot = &mut slot[..length.min(SLOT_LENGTH)];
+        let filed = record.file(slot).map_err(RefusedFiling::strike).is_ok();
+        self.write_answer(Answer::Filed);
+        self.write_byte(u8::from(filed));
         self.write_bytes(slot);
-    }
-}
-
-// Files a record, or strikes it out where that is refused; answers whether it was filed.
-fn file_or_strike(record: ClosingRecord, slot: &mut [u8]) -> bool {
-    match record.file(slot) {
-        Ok(()) => true,
-        Err(refused) => {
-            let RefusedFiling { refusal: _, owed } = refused;
-            owed.strike();
-            false
-        }
     }
 }

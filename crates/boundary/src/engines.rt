@@ -1,113 +1,99 @@
 // Work that is done in any order over any engine, and the choice of the two.
+ghost use Rattle.std.specs.Prelude.{◌≡◌, cond, ◌==◌};
+ghost use Rattle.boundary.specs.declared.engines.EngineChoice.TheVariants.{Flow, CachedFlow, Table, CachedTable};
+
+use crate::session::Session;
 use cache::rule_cache::{Counts, RuleCache};
-use labels::cell::Cell;
 use labels::order::Order;
 use orders::named::NamedOrder;
 use rules::engine::Engine;
 use rules::flow_engine::FlowEngine;
-use sitting::sitting::Sitting;
 use table::compile::compiled_table;
 use table::table::{Table, row_count};
 
 // How many rows the greatest table has.
 const MOST_ROWS: usize = 14_056;
 
-// What is done in an order over an engine.
+// What is done in an order over an engine. A trait, since no closure is generic over their types.
 pub(crate) trait Work {
+    type Answer;
+
     fn perform<O: Order, E: Engine>(
-        &mut self,
+        self,
         order: &O,
         engine: &mut E,
-        sitting: &mut Sitting,
-        image: &[u8],
-        cells: &mut [Cell],
-        outputs: &mut [Cell],
-    );
+        session: &mut Session,
+    ) -> Self::Answer;
 }
 
-// Which engine is made over an order.
+// Which engine is made over an order. In place of a table stands the flow engine where an order has too many labels.
 #[derive(Clone, Copy)]
-pub(crate) struct EngineChoice {
-    // A compiled table, where the order has few enough labels; else the flow engine.
-    table: bool,
-    // A rule cache over it.
-    cached: bool,
+pub(crate) enum EngineChoice {
+    Flow,
+    CachedFlow,
+    Table,
+    CachedTable,
+}
+
+// By its number; any other is the flow engine.
+impl From<u8> for EngineChoice {
+    ghost from_gives = { λ number choice. choice ≡ cond (number == 1) CachedFlow (cond (number == 2) Table (cond (number == 3) CachedTable Flow)) };
+
+    fn from(number: u8) -> EngineChoice {
+        match number {
+            1 => EngineChoice::CachedFlow,
+            2 => EngineChoice::Table,
+            3 => EngineChoice::CachedTable,
+            _ => EngineChoice::Flow,
+        }
+    }
 }
 
 impl EngineChoice {
-    pub(crate) const CACHED_FLOW: EngineChoice = EngineChoice {
-        table: false,
-        cached: true,
-    };
-
-    // 1 for a cache over the flow engine, 2 for a table, 3 for a cache over a table, else the flow engine.
-    pub(crate) fn new(number: u8) -> EngineChoice {
-        EngineChoice {
-            table: number == 2 || number == 3,
-            cached: number == 1 || number == 3,
-        }
-    }
-
-    // Does a work in an order of some kind. Answers the counts of the cache, 0 without one.
+    // Does a work in an order of some kind. Answers what it came to, and the counts of the cache, 0 without one.
+    // An arm for each make of order, since no closure is generic in a type.
     pub(crate) fn perform<W: Work>(
         self,
-        work: &mut W,
+        work: W,
         order: NamedOrder,
-        sitting: &mut Sitting,
-        image: &[u8],
-        cells: &mut [Cell],
-        outputs: &mut [Cell],
-    ) -> Counts {
+        session: &mut Session,
+    ) -> (W::Answer, Counts) {
         match order {
-            NamedOrder::TwoPoint(order) => {
-                self.perform_in(work, order, sitting, image, cells, outputs)
-            }
-            NamedOrder::BarredSets(order) => {
-                self.perform_in(work, order, sitting, image, cells, outputs)
-            }
-            NamedOrder::Clearances(order) => {
-                self.perform_in(work, order, sitting, image, cells, outputs)
-            }
+            NamedOrder::TwoPoint(order) => self.perform_in(work, order, session),
+            NamedOrder::BarredSets(order) => self.perform_in(work, order, session),
+            NamedOrder::Clearances(order) => self.perform_in(work, order, session),
         }
     }
 
     fn perform_in<O: Order + Copy, W: Work>(
         self,
-        work: &mut W,
+        work: W,
         order: O,
-        sitting: &mut Sitting,
-        image: &[u8],
-        cells: &mut [Cell],
-        outputs: &mut [Cell],
-    ) -> Counts {
-        if self.table {
+        session: &mut Session,
+    ) -> (W::Answer, Counts) {
+        if let EngineChoice::Table | EngineChoice::CachedTable = self {
             let mut rows = [0; MOST_ROWS];
             if let Some(table) = table_in(&order, &mut rows) {
-                return self.perform_over(work, &order, table, sitting, image, cells, outputs);
+                return self.perform_over(work, &order, table, session);
             }
         }
-        let engine = FlowEngine::new(order);
-        self.perform_over(work, &order, engine, sitting, image, cells, outputs)
+        self.perform_over(work, &order, FlowEngine::new(order), session)
     }
 
     fn perform_over<O: Order, E: Engine + Drop, W: Work>(
         self,
-        work: &mut W,
+        work: W,
         order: &O,
-        engine: E,
-        sitting: &mut Sitting,
-        image: &[u8],
-        cells: &mut [Cell],
-        outputs: &mut [Cell],
-    ) -> Counts {
-        if self.cached {
+        mut engine: E,
+        session: &mut Session,
+    ) -> (W::Answer, Counts) {
+        if let EngineChoice::CachedFlow | EngineChoice::CachedTable = self {
             let mut cache = RuleCache::new(engine);
-            work.perform(order, &mut cache, sitting, image, cells, outputs);
-            return cache.counts();
+            let answer = work.perform(order, &mut cache, session);
+            return (answer, cache.counts());
         }
-        let mut engine = engine;
-        work.perform(order, &mut engine, sitting, image, cells, outputs);
-        Counts { hits: 0, misses: 0 }
+        let answer = work.perform(order, &mut engine, session);
+        (answer, Counts { hits: 0, misses: 0 })
     }
 }
 
@@ -115,8 +101,5 @@ impl EngineChoice {
 fn table_in<'a, O: Order>(order: &O, rows: &'a mut [u32]) -> Option<Table<'a>> {
     let labels = u8::try_from(order.bound()).ok()?;
     let count = row_count(labels).ok()?;
-    if count > rows.len() {
-        return None;
-    }
-    compiled_table(order, &mut rows[0..count]).ok()
+    compiled_table(order, rows.get_mut(..count)?).ok()
 }

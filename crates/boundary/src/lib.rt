@@ -6,25 +6,19 @@
 ghost use Rattle.std.specs.Prelude.{◌≤◌, length};
 
 mod calls;
-mod case;
 mod engines;
 mod script;
+mod session;
 mod timing;
 mod transcript;
 
-use crate::engines::Work;
-use case::Case;
+use calls::Calls;
 use engines::EngineChoice;
 use labels::cell::{Cell, Tag, Word};
-use orders::named::NamedOrder;
-use sitting::sitting::Sitting;
+use script::Script;
+use session::{CELLS, OUTPUT_PLACES, Session};
 use timing::{open_many, run_and_page};
-
-// How many cells a sitting has at most.
-const CELLS: usize = 4096;
-
-// How many output places a sitting has at most.
-const OUTPUT_PLACES: usize = 256;
+use transcript::Transcript;
 
 // What cells and output places hold before a case.
 const UNTOUCHED: Cell = Cell {
@@ -32,51 +26,42 @@ const UNTOUCHED: Cell = Cell {
     tag: Tag(0xBBBB),
 };
 
+// What a transcript begins with where the image names an order.
+const ORDER_FOUND: u8 = 0;
+
 // Makes the calls of a script, and answers how many bytes of the transcript were written, never more than it has.
 #[unsafe(no_mangle)]
 pub extern "C" fn pump_case(script: &[u8], transcript: &mut [u8]) -> usize
     ensures { result ≤ length transcript.old }
 {
-    let room = transcript.len();
-    let mut case = Case::new(script, transcript);
-    let _ = run_case(&mut case);
-    room.min(case.written)
+    let length = transcript.len();
+    let mut transcript = Transcript::new(transcript);
+    let _ = run_case(Script::new(script), &mut transcript);
+    length.saturating_sub(transcript.room())
 }
 
 // None where the script ends too soon, or asks for too much memory.
-fn run_case(case: &mut Case) -> Option<()> {
-    let length = case.take_short()? as usize;
-    let image = case.take(length)?;
-    let cell_count = case.take_short()? as usize;
-    let place_count = case.take_short()? as usize;
-    let choice = EngineChoice::new(case.take_byte()?);
-    if cell_count > CELLS || place_count > OUTPUT_PLACES {
-        return None;
-    }
-    match Sitting::new().find_order(image) {
-        Ok(order) => run_calls(case, choice, order, image, cell_count, place_count),
-        Err(refusal) => case.write_refusal(refusal),
-    }
-    Some(())
-}
-
-// The calls in the order of the case.
-fn run_calls(
-    case: &mut Case,
-    choice: EngineChoice,
-    order: NamedOrder,
-    image: &[u8],
-    cell_count: usize,
-    place_count: usize,
-) {
+fn run_case(mut script: Script, transcript: &mut Transcript) -> Option<()> {
+    let length = script.short()? as usize;
+    let image = script.bytes(length)?;
+    let cell_count = script.short()? as usize;
+    let place_count = script.short()? as usize;
+    let choice = EngineChoice::from(script.byte()?);
     let mut cells = [UNTOUCHED; CELLS];
     let mut outputs = [UNTOUCHED; OUTPUT_PLACES];
-    let cells = &mut cells[0..cell_count.min(CELLS)];
-    let outputs = &mut outputs[0..place_count.min(OUTPUT_PLACES)];
-    let mut sitting = Sitting::new();
-    case.write_byte(0);
-    let counts = choice.perform(case, order, &mut sitting, image, cells, outputs);
-    case.finish(&sitting, counts, cells, outputs);
+    let cells = cells.get_mut(..cell_count)?;
+    let outputs = outputs.get_mut(..place_count)?;
+    let mut session = Session::new(image, cells, outputs);
+    match session.find_order() {
+        Ok(order) => {
+            transcript.write_byte(ORDER_FOUND);
+            let calls = Calls { script, transcript };
+            let ((), counts) = choice.perform(calls, order, &mut session);
+            transcript.write_end(&session, counts);
+        }
+        Err(refusal) => transcript.write_refusal(refusal),
+    }
+    Some(())
 }
 
 // Opens an image so many times, each time in a new sitting, and answers how many were granted.
@@ -88,14 +73,12 @@ pub extern "C" fn pump_open_many(image: &[u8], times: u32) -> u32 {
 // Opens an image and runs it over the engine of a number, and answers the granted steps; 0 where it is refused.
 #[unsafe(no_mangle)]
 pub extern "C" fn pump_run(image: &[u8], engine: u8, budget: u32) -> u32 {
-    let (granted, _) = run_and_page(image, EngineChoice::new(engine), budget, 0);
-    granted
+    run_and_page(image, EngineChoice::from(engine), budget, 0).map_or(0, |ran| ran.granted)
 }
 
 // Opens an image, runs it over a cached flow engine and pages it so many times, and answers the sum of the visible outputs,
 // modulo 2^32; 0 where it is refused.
 #[unsafe(no_mangle)]
 pub extern "C" fn pump_page_many(image: &[u8], budget: u32, times: u32) -> u32 {
-    let (_, visible) = run_and_page(image, EngineChoice::CACHED_FLOW, budget, times);
-    visible
+    run_and_page(image, EngineChoice::CachedFlow, budget, times).map_or(0, |ran| ran.visible)
 }

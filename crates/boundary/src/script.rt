@@ -1,5 +1,7 @@
-// Reading the script of a case: numbers, most significant byte first, and calls.
-use crate::case::Case;
+// Reading the script of a case: numbers, most significant byte first, and then calls.
+ghost use Rattle.std.specs.Prelude.{◌+◌, ◌≤◌, ◌≡◌, length, IfSome};
+ghost use Rattle.std.specs.Iterator.{at_most};
+
 use labels::name::{OrderName, Parameters};
 
 // One call of a script.
@@ -15,76 +17,84 @@ pub(crate) enum Call {
     PageShorter { by: u16 },
 }
 
-impl<'s, 't> Case<'s, 't> {
+// What is left to read of a script.
+#[derive(Drop)]
+pub(crate) struct Script<'s> {
+    rest: &'s [u8],
+}
+
+impl<'s> Script<'s> {
+    pub(crate) fn new(script: &'s [u8]) -> Script<'s> {
+        Script { rest: script }
+    }
+
     // The next so many bytes; none, and nothing is read, where fewer are left.
-    pub(crate) fn take(&mut self, count: usize) -> Option<&'s [u8]> {
-        let script = self.script;
-        if count > script.len() {
-            return None;
-        }
-        let (taken, rest) = script.split_at(count);
-        self.script = rest;
-        Some(taken)
+    pub(crate) fn bytes(&mut self, count: usize) -> Option<&'s [u8]> {
+        self.rest.split_off(..count)
     }
 
-    pub(crate) fn take_byte(&mut self) -> Option<u8> {
-        let [byte] = self.take(1)? else {
-            return None;
-        };
-        Some(*byte)
+    fn array<const N: usize>(&mut self) -> Option<[u8; N]>
+        ensures shorter { IfSome result (λ _. length self.new.rest.now + N ≡ length self.old.rest.now) }
+        ensures no_longer { length self.new.rest.now ≤ length self.old.rest.now }
+    {
+        let (first, rest) = self.rest.split_first_chunk()?;
+        self.rest = rest;
+        Some(*first)
     }
 
-    pub(crate) fn take_short(&mut self) -> Option<u16> {
-        let [high, low] = self.take(2)? else {
-            return None;
-        };
-        Some(u16::from_be_bytes([*high, *low]))
+    pub(crate) fn byte(&mut self) -> Option<u8> {
+        Some(u8::from_be_bytes(self.array()?))
     }
 
-    fn take_word(&mut self) -> Option<u32> {
-        let [a, b, c, d] = self.take(4)? else {
-            return None;
-        };
-        Some(u32::from_be_bytes([*a, *b, *c, *d]))
+    pub(crate) fn short(&mut self) -> Option<u16> {
+        Some(u16::from_be_bytes(self.array()?))
     }
 
-    fn take_name(&mut self) -> Option<OrderName> {
-        let [kind, p, q] = self.take(3)? else {
-            return None;
-        };
-        Some(OrderName {
-            kind: *kind,
-            parameters: Parameters { p: *p, q: *q },
-        })
-    }
-
-    // The next call; none at the end, at a byte that begins no call, and where a call is cut off.
-    pub(crate) fn take_call(&mut self) -> Option<Call> {
-        let call = match self.take_byte()? {
+    // The call that this byte begins; none where it begins no call, and where the call is cut off.
+    fn call(&mut self, kind: u8) -> Option<Call>
+        ensures { length self.new.rest.now ≤ length self.old.rest.now }
+    {
+        let call = match kind {
             0 => Call::Open,
             1 => Call::Run {
-                budget: self.take_word()?,
+                budget: u32::from_be_bytes(self.array()?),
             },
             2 => Call::Page {
-                length: self.take_short()?,
+                length: u16::from_be_bytes(self.array()?),
             },
             3 => Call::PeekRegister {
-                number: self.take_byte()?,
+                number: u8::from_be_bytes(self.array()?),
             },
             4 => Call::PeekCell {
-                number: self.take_word()?,
+                number: u32::from_be_bytes(self.array()?),
             },
             5 => Call::Close {
-                length: self.take_byte()?,
+                length: u8::from_be_bytes(self.array()?),
             },
-            6 => Call::PageIn {
-                name: self.take_name()?,
-            },
+            6 => {
+                let [kind, p, q] = self.array::<3>()?;
+                let parameters = Parameters { p, q };
+                Call::PageIn {
+                    name: OrderName { kind, parameters },
+                }
+            }
             7 => Call::PageShorter {
-                by: self.take_short()?,
+                by: u16::from_be_bytes(self.array()?),
             },
             _ => return None,
         };
         Some(call)
+    }
+}
+
+// The calls, up to the first that is none.
+impl Iterator for Script<'_> {
+    type Item = Call;
+
+    ghost remaining = { λ s. at_most (length s.rest.now) };
+
+    fn next(&mut self) -> Option<Call> {
+        let [kind] = self.array::<1>()?;
+        self.call(kind)
     }
 }

@@ -50,7 +50,7 @@ filled b lines k q grant h e all i =
       | inr s ↦ subst (Right b) (sym (get_or-set_other lines k i (line_with q grant) empty s.1)) (all i)
     ]
 
-refills : (b : Book) (t : Lines Line) (q : Query) (v : Verdict) → v ≡ b q → ((i : ℕ) → Right b (slice_index_or t.all i empty)) → (i : ℕ) → Right b (slice_index_or (refilled t q v).all i empty)
+refills : (b : Book) (t : Lines) (q : Query) (v : Verdict) → v ≡ b q → ((i : ℕ) → Right b (slice_index_or t.all i empty)) → (i : ℕ) → Right b (slice_index_or (refilled t q v).all i empty)
 unfolding with_record
 refills b t q (Ok grant) e all = let low = number_low q in let n = t.sized in filled b t.all (line_number q) q grant (omega arith) (sym e) all
 refills b t q (Err x) e all = all

@@ -16,10 +16,10 @@ one_more_counted n = min (n + 1) 4294967295
 
 -- a new cache: all lines empty, both counts 0
 abbrev pub new_cache : {E : Type 0} → E → RuleCache E
-new_cache e = record { engine = e; lines = all_alike empty; hits = 0; misses = 0 }
+new_cache e = record { engine = e; lines = all_alike empty; counts = record { hits = 0; misses = 0 } }
 
 abbrev pub counts_of : {E : Type 0} → RuleCache E → Counts
-counts_of c = record { hits = c.hits; misses = c.misses }
+counts_of c = c.counts
 
 -- the hit test: the grant that the line of a query holds for it
 abbrev pub grant_held : {E : Type 0} → RuleCache E → Query → Option (Tag × Tag)
@@ -27,16 +27,16 @@ grant_held c q = grant_in (slice_index_or c.lines.all (line_number q) empty) q
 
 -- after a hit only the hits have changed
 abbrev pub after_hit : {E : Type 0} → RuleCache E → RuleCache E
-after_hit c = record { engine = c.engine; lines = c.lines; hits = one_more_counted c.hits; misses = c.misses }
+after_hit c = record { engine = c.engine; lines = c.lines; counts = record { hits = one_more_counted c.counts.hits; misses = c.counts.misses } }
 
 -- a grant takes the line of its query, a violation leaves it
-abbrev pub refilled : Lines Line → Query → Verdict → Lines Line
+abbrev pub refilled : Lines → Query → Verdict → Lines
 refilled t q (Ok grant) = with_record t (line_number q) (line_with q grant)
 refilled t q (Err x) = t
 
 -- after a miss that the engine below answered
 abbrev pub after_miss : {E : Type 0} → RuleCache E → Query → Verdict → E → RuleCache E
-after_miss c q v below = record { engine = below; lines = refilled c.lines q v; hits = c.hits; misses = one_more_counted c.misses }
+after_miss c q v below = record { engine = below; lines = refilled c.lines q v; counts = record { hits = c.counts.hits; misses = one_more_counted c.counts.misses } }
 
 -- a hit: the line's grant is the answer, and the engine below is not asked
 pub record Hit {E : Type 0} (before : RuleCache E) (grant : Tag × Tag) (v : Verdict) (after : RuleCache E) : Type 0 where

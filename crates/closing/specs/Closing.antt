@@ -1,9 +1,8 @@
 -- What closing a sitting gives, the twelve bytes of its record, and what filing does.
-use Rattle.std.specs.Prelude.{ℕ, ◌+◌, ◌*◌, ◌/◌, ◌%◌, false, cond, List, [], ◌∷◌, ◌++◌, length, Ok, Err, Result, ◌==◌}
+use Rattle.std.specs.Prelude.{ℕ, ◌+◌, ◌*◌, ◌/◌, ◌%◌, false, cond, List, [], ◌∷◌, ◌++◌, length, Ok, Err, Result, unwrap_or, ◌==◌}
 use Rattle.labels.specs.declared.refusal.Refusal.TheVariants.{WrongSlotLength}
-use Rattle.machine.specs.Fault.{fault_number}
 use Rattle.sitting.specs.declared.sitting.State.{State}
-use Rattle.sitting.specs.declared.sitting.State.TheVariants.{Blank, Running, Halted, Faulted, Violated}
+use Rattle.sitting.specs.State.{state_number, state_cause}
 use Rattle.sitting.specs.Sitting.{Standing}
 use Rattle.closing.specs.declared.record.ClosingRecord.{ClosingRecord}
 use Rattle.closing.specs.declared.record.RefusedFiling.{RefusedFiling}
@@ -12,20 +11,9 @@ use Rattle.closing.specs.declared.record.RefusedFiling.{RefusedFiling}
 abbrev pub closed : Standing → ClosingRecord
 closed s = record { state = s.state; pc_tag = s.machine.pc_tag; pc = s.machine.pc; steps = s.machine.steps; settled = false }
 
-abbrev pub state_number : State → ℕ
-state_number Blank = 0
-state_number Running = 1
-state_number Halted = 2
-state_number (Faulted fault) = 3
-state_number (Violated violation) = 4
-
 -- the number of a fault or the cause of a violation, else 0
 abbrev pub cause_number : State → ℕ
-cause_number Blank = 0
-cause_number Running = 0
-cause_number Halted = 0
-cause_number (Faulted fault) = fault_number fault
-cause_number (Violated violation) = violation.cause
+cause_number s = unwrap_or (state_cause s) 0
 
 -- four bits of state and four of cause
 abbrev pub state_byte : State → ℕ

@@ -24,7 +24,7 @@ pub fn close(sitting: Sitting) -> ClosingRecord
 }
 
 impl ClosingRecord {
-    // The twelve bytes that are filed.
+    // The twelve bytes that are filed, in the order in which their definition lists them.
     pub fn bytes(&self) -> [u8; RECORD_LENGTH]
         ensures { result ≡ record_bytes self.now }
     {
@@ -65,9 +65,8 @@ impl ClosingRecord {
     }
 
     // Ends the record without writing it.
-    pub fn strike(self) {
-        let mut record = self;
-        record.settled = true;
+    pub fn strike(mut self) {
+        self.settled = true;
     }
 }
 
@@ -75,11 +74,5 @@ impl ClosingRecord {
 fn state_byte(state: State) -> u8
     ensures { result ≡ state_byte state }
 {
-    match state {
-        State::Blank => 0x00,
-        State::Running => 0x10,
-        State::Halted => 0x20,
-        State::Faulted(fault) => 0x30 + fault.number(),
-        State::Violated(violation) => 0x40 + violation.cause,
-    }
+    state.number() * 16 + state.cause().unwrap_or(0)
 }

@@ -34,3 +34,14 @@ pub struct RefusedFiling {
     pub refusal: Refusal,
     pub owed: ClosingRecord,
 }
+
+impl RefusedFiling {
+    // Strikes the record out, and answers why it was not filed.
+    pub fn strike(self) -> Refusal
+        ensures { result ≡ self.refusal }
+    {
+        let RefusedFiling { refusal, owed } = self;
+        owed.strike();
+        refusal
+    }
+}

@@ -1,20 +1,52 @@
 // The examiner's program: runs two images side by side, and says whether they are alike and how their pages compare.
 #![tactic(auto)]
 
-use alike::difference::{Difference, find_difference};
-use anyhow::anyhow;
+use alike::difference::find_difference;
+use anyhow::bail;
 use cache::rule_cache::Counts;
-use examiner::caches::examine_with_caches;
-use examiner::compare::Comparison;
+use examiner::caches::{ExaminedWithCaches, examine_with_caches};
+use examiner::examine::Examined;
 use examiner::side::SideSeen;
 use image::header::Header;
+use itertools::Itertools;
 use labels::cell::Cell;
 use labels::order::Order;
 use labels::refusal::Refusal;
 use orders::named::NamedOrder;
 use screen::screen::{Screen, cells_wanted, output_places, zero_cells};
 use screen::session::{BUDGET, Report};
+use std::alloc::{AllocError, Global};
 use std::{env, fs};
+use viewing::lent::LentMemory;
+
+// What one side is examined in, on the heap.
+#[derive(Drop)]
+struct Memory {
+    cells: Vec<Cell>,
+    outputs: Vec<Cell>,
+    page: Vec<Cell>,
+}
+
+impl Memory {
+    // As much as an image wants.
+    fn new(heap: Global, image: &[u8]) -> Result<Memory, AllocError> {
+        Ok(Memory {
+            cells: zero_cells(heap, cells_wanted(image))?,
+            outputs: output_places(heap)?,
+            page: output_places(heap)?,
+        })
+    }
+
+    // All of it, lent together with the image.
+    fn lend<'i, 'm>(&'m mut self, image: &'i [u8]) -> LentMemory<'i, 'm> {
+        LentMemory {
+            image,
+            cells: self.cells.as_mut_slice(),
+            outputs: self.outputs.as_mut_slice(),
+            page: self.page.as_mut_slice(),
+        }
+    }
+}
 
 // What one side came to, as the program pump shows it.
 fn screen_of(side: SideSeen, page: Vec<Cell>, cache: Counts) -> Screen {
@@ -22,49 +54,36 @@ fn screen_of(side: SideSeen, page: Vec<Cell>, cache: Counts) -> Screen {
         sitting,
         page: answer,
     } = side;
-    match answer {
-        Ok(shown) => Screen::Ran(page, Report::new(&sitting, shown, cache)),
-        Err(refusal) => Screen::Refused(refusal),
+    Screen {
+        report: answer.map(|shown| Report::new(&sitting, shown, cache)),
+        page,
     }
 }
 
 // Two texts side by side, line by line.
 fn print_columns(rt: &HostRuntime, left: &str, right: &str) -> anyhow::Result<()> {
-    let mut right_lines = right.lines();
-    for line in left.lines() {
-        let other = right_lines.next().unwrap_or("");
+    for lines in left.lines().zip_longest(right.lines()) {
+        let (line, other) = lines.or("", "");
         println!(rt; "{line:<32} | {other}")?;
     }
-    for other in right_lines {
-        println!(rt; "{:<32} | {other}", "")?;
-    }
     Ok(())
 }
 
-fn print_difference(rt: &HostRuntime, difference: Option<Difference>) -> anyhow::Result<()> {
-    match difference {
+// Whether the images are alike, or their first difference.
+fn print_likeness<O: Order>(
+    rt: &HostRuntime,
+    order: &O,
+    left: &[u8],
+    right: &[u8],
+) -> anyhow::Result<()> {
+    match find_difference(order, left, right) {
+        Some(difference) => println!(rt; "not alike: {difference}")?,
         None => println!(rt; "alike to their reader")?,
-        Some(Difference::Reader) => println!(rt; "not alike: the readers differ")?,
-        Some(Difference::CodeEntry(number)) => println!(rt;
-            "not alike: code entry {number} differs"
-        )?,
-        Some(Difference::Cell(number)) => println!(rt; "not alike: cell {number} differs")?,
     }
     Ok(())
 }
 
-fn print_comparison(rt: &HostRuntime, comparison: Option<Comparison>) -> anyhow::Result<()> {
-    let text = match comparison {
-        Some(Comparison::Equal) => "pages equal",
-        Some(Comparison::LeftFirst) => "left page is the first of the right",
-        Some(Comparison::RightFirst) => "right page is the first of the left",
-        Some(Comparison::Different) => "pages different",
-        None => "pages not both granted",
-    };
-    println!(rt; "{text}")?;
-    Ok(())
-}
-
+// Runs both images in an order, and prints whether they are alike, both screens, and how the pages compare.
 fn compare_in<O: Order + Copy>(
     rt: &HostRuntime,
     order: O,
@@ -72,60 +91,58 @@ fn compare_in<O: Order + Copy>(
     right: &[u8],
 ) -> anyhow::Result<()> {
     let heap = rt.alloc();
-    let mut left_cells = zero_cells(heap, cells_wanted(left))?;
-    let mut right_cells = zero_cells(heap, cells_wanted(right))?;
-    let mut left_outputs = output_places(heap)?;
-    let mut right_outputs = output_places(heap)?;
-    let mut left_page = output_places(heap)?;
-    let mut right_page = output_places(heap)?;
-    let seen = examine_with_caches(
+    let mut left_memory = Memory::new(heap, left)?;
+    let mut right_memory = Memory::new(heap, right)?;
+    let ExaminedWithCaches {
+        examined,
+        left_counts,
+        right_counts,
+    } = examine_with_caches(
         order,
         BUDGET,
-        left,
-        left_cells.as_mut_slice(),
-        left_outputs.as_mut_slice(),
-        left_page.as_mut_slice(),
-        right,
-        right_cells.as_mut_slice(),
-        right_outputs.as_mut_slice(),
-        right_page.as_mut_slice(),
+        &mut left_memory.lend(left),
+        &mut right_memory.lend(right),
     );
-    print_difference(rt, find_difference(&order, left, right))?;
-    let left_screen = screen_of(seen.examined.left, left_page, seen.left_counts).to_string(heap)?;
-    let right_screen = screen_of(seen.examined.right, right_page, seen.right_counts).to_string(
-        heap,
-    )?;
-    print_columns(rt, left_screen.as_str(), right_screen.as_str())?;
-    print_comparison(rt, seen.examined.comparison)
+    let Examined {
+        left: left_seen,
+        right: right_seen,
+        comparison,
+    } = examined;
+    print_likeness(rt, &order, left, right)?;
+    let left_screen = screen_of(left_seen, left_memory.page, left_counts);
+    let right_screen = screen_of(right_seen, right_memory.page, right_counts);
+    let left_text = left_screen.to_string(heap)?;
+    let right_text = right_screen.to_string(heap)?;
+    print_columns(rt, left_text.as_str(), right_text.as_str())?;
+    match comparison {
+        Some(comparison) => println!(rt; "{comparison}")?,
+        None => println!(rt; "pages not both granted")?,
+    }
+    Ok(())
 }
 
 // The order that an image's header names.
 fn order_of(image: &[u8]) -> Result<NamedOrder, Refusal> {
-    NamedOrder::new(Header::read(image)?.order)
+    NamedOrder::try_from(Header::read(image)?.order)
 }
 
-// Both images are taken in the order that the left one names.
+// Both images are taken in the order that the left one names. An arm for each make, since no closure is generic in a type.
 fn compare_images(rt: &HostRuntime, left: &[u8], right: &[u8]) -> anyhow::Result<()> {
-    let order = match order_of(left) {
-        Ok(order) => order,
+    match order_of(left) {
+        Ok(NamedOrder::TwoPoint(order)) => compare_in(rt, order, left, right),
+        Ok(NamedOrder::BarredSets(order)) => compare_in(rt, order, left, right),
+        Ok(NamedOrder::Clearances(order)) => compare_in(rt, order, left, right),
         Err(refusal) => {
-            let number = refusal.number();
-            println!(rt; "left image refused {number}")?;
-            return Ok(());
+            println!(rt; "left image refused {refusal}")?;
+            Ok(())
         }
-    };
-    match order {
-        NamedOrder::TwoPoint(order) => compare_in(rt, order, left, right),
-        NamedOrder::BarredSets(order) => compare_in(rt, order, left, right),
-        NamedOrder::Clearances(order) => compare_in(rt, order, left, right),
     }
 }
 
 fn run(rt: &HostRuntime) -> anyhow::Result<()> {
-    let mut words = env::args(rt)?;
-    let _program = words.next();
-    let (Some(left), Some(right)) = (words.next(), words.next()) else {
-        return Err(anyhow!("two image files are wanted"));
+    let mut paths = env::args(rt)?.skip(1);
+    let (Some(left), Some(right)) = (paths.next(), paths.next()) else {
+        bail!("two image files are wanted");
     };
     let left = fs::read(rt, left.as_str())?;
     let right = fs::read(rt, right.as_str())?;

@@ -10,16 +10,13 @@ ghost use Rattle.cache.specs.RuleCache.{Means};
 use cache::flow_cache::flow_cache;
 use cache::rule_cache::RuleCache;
 use labels::cell::Tag;
-use labels::name::Parameters;
-use labels::order::{KindNumber, Order};
-use orders::barred_sets::BarredSets;
-use orders::clearances::Clearances;
-use orders::two_point::TwoPoint;
+use labels::name::{OrderName, Parameters};
+use labels::order::Order;
+use orders::named::NamedOrder;
 use rules::engine::Engine;
 use rules::flow::judge;
 use rules::flow_engine::FlowEngine;
 use rules::query::Query;
-use std::io;
 use table::compile::compile;
 use table::table::{Table, row_count};
 
@@ -40,29 +37,26 @@ fn query(number: u32, tags: &[Tag; 4]) -> Query {
 }
 
 // Asks each query twice, so that a cache can hit, and counts the answers that are not the flow rules'.
-fn differences<O: Order, E: Engine>(order: &O, engine: &mut E, tags: &[Tag; 4]) -> u32 {
-    let mut count = 0u32;
+fn differences<O: Order, E: Engine>(order: &O, engine: &mut E, tags: &[Tag; 4]) -> usize {
+    let mut count = 0;
     for number in 0..QUERIES {
         let query = query(number, tags);
         let expected = judge(order, &query);
-        for _ in 0..2 {
-            if engine.ask(query) != expected {
-                count = count.wrapping_add(1);
-            }
-        }
+        let answers = [engine.ask(query), engine.ask(query)];
+        count += answers.iter().filter(|answer| **answer != expected).count();
     }
     count
 }
 
-// How many queries are granted, and how many have each cause from 1 to 4.
-fn verdicts<O: Order>(order: &O, tags: &[Tag; 4]) -> [u32; 5] {
-    let mut counts = [0u32; 5];
+// How many queries are granted, and how many have each cause.
+fn verdicts<O: Order>(order: &O, tags: &[Tag; 4]) -> [u32; 16] {
+    let mut counts = [0u32; 16];
     for number in 0..QUERIES {
-        let place = match judge(order, &query(number, tags)) {
+        let cause = match judge(order, &query(number, tags)) {
             Ok(_) => 0,
-            Err(violation) => violation.cause as usize % 5,
+            Err(violation) => violation.cause,
         };
-        counts[place] = counts[place].wrapping_add(1);
+        counts[cause as usize] += 1;
     }
     counts
 }
@@ -81,29 +75,17 @@ fn twice_cached<O: Order>(order: O) -> RuleCache<RuleCache<FlowEngine<O>>>
     RuleCache::new(flow_cache(order))
 }
 
-// Compares the engines over one order.
-fn report<O: Order + Copy>(rt: &HostRuntime, order: O, rows: &mut [u32]) -> io::Result<()> {
+// Compares the engines over an order of at most 8 labels; of any other it prints nothing.
+fn report<O: Order + Copy>(rt: &HostRuntime, order: O) -> anyhow::Result<()> {
     let bound = order.bound();
-    if bound < 1 || bound > 8 {
+    if !(1..=8).contains(&bound) {
         return Ok(());
     }
     let labels = bound as u8;
-    let Ok(count) = row_count(labels) else {
-        return rt.println("no row count");
-    };
-    if count > rows.len() {
-        return rt.println("too few rows");
-    }
-    let rows = &mut rows[0..count];
-    let Ok(()) = compile(&order, rows) else {
-        return rt.println("compiling refused");
-    };
-    let Ok(mut table) = Table::new(labels, rows) else {
-        return rt.println("table refused");
-    };
-    let Ok(below) = Table::new(labels, rows) else {
-        return rt.println("table refused");
-    };
+    let mut rows = vec![in rt.alloc(); 0u32; row_count(labels)?]?;
+    compile(&order, rows.as_mut_slice())?;
+    let mut table = Table::new(labels, rows.as_slice())?;
+    let below = Table::new(labels, rows.as_slice())?;
     let tags = [Tag(0), Tag(1), Tag(labels as u16 - 1), Tag(labels as u16)];
     let mut cached = flow_cache(order);
     let by_flow = differences(&order, &mut FlowEngine::new(order), &tags);
@@ -111,36 +93,39 @@ fn report<O: Order + Copy>(rt: &HostRuntime, order: O, rows: &mut [u32]) -> io::
     let by_cache = differences(&order, &mut cached, &tags);
     let by_cached_table = differences(&order, &mut cached_table(below), &tags);
     let by_two_caches = differences(&order, &mut twice_cached(order), &tags);
-    let [grants, one, two, three, four] = verdicts(&order, &tags);
+    let [grants, one, two, three, four, ..] = verdicts(&order, &tags);
     let counts = cached.counts();
-    let kind = O::KIND.value();
+    let kind = O::KIND;
     let own = order.parameters();
     println!(rt;
         "order {kind} {} {}: {grants} grants, causes {one} {two} {three} {four}, cache hits {} misses {}",
         own.p, own.q, counts.hits, counts.misses
     )?;
-    println!(rt; "differences: {by_flow} {by_table} {by_cache} {by_cached_table} {by_two_caches}")
+    println!(rt; "differences: {by_flow} {by_table} {by_cache} {by_cached_table} {by_two_caches}")?;
+    Ok(())
 }
 
-// Compares the engines over every order of at most 8 labels.
-fn report_all(rt: &HostRuntime, rows: &mut [u32]) -> io::Result<()> {
-    report(rt, TwoPoint, rows)?;
-    for p in 0..16u8 {
-        if let Ok(order) = BarredSets::new(Parameters { p, q: 0 }) {
-            report(rt, order, rows)?;
-        }
-    }
-    for p in 0..16u8 {
-        for q in 0..13u8 {
-            if let Ok(order) = Clearances::new(Parameters { p, q }) {
-                report(rt, order, rows)?;
-            }
+// Compares the engines over the order of each name: twelve bits, the kind first.
+fn run(rt: &HostRuntime) -> anyhow::Result<()> {
+    for bits in 0..4096u16 {
+        let name = OrderName {
+            kind: (bits / 256) as u8,
+            parameters: Parameters {
+                p: (bits / 16 % 16) as u8,
+                q: (bits % 16) as u8,
+            },
+        };
+        // An arm for each make of order, since no closure is generic in a type.
+        match NamedOrder::try_from(name) {
+            Ok(NamedOrder::TwoPoint(order)) => report(rt, order)?,
+            Ok(NamedOrder::BarredSets(order)) => report(rt, order)?,
+            Ok(NamedOrder::Clearances(order)) => report(rt, order)?,
+            Err(_) => {}
         }
     }
     Ok(())
 }
 
-fn main(rt: HostRuntime) -> io::Result<()> {
-    let mut rows = [0u32; 14056];
-    report_all(&rt, &mut rows)
+fn main(rt: HostRuntime) -> anyhow::Result<()> {
+    run(&rt)
 }

@@ -1,54 +1,47 @@
--- How what is left of two lists compares, place by place.
-use Rattle.std.proofs.Common.{◌≡◌, ℕ, ◌+◌, ◌<◌, ◌≤◌, min, Bool, true, false, ◌⊎◌, List, [], ◌∷◌, ◌++◌, length, get_or, drop, sym, refl, ap, ◌∙◌, ⊎_elim, arith}
-use Rattle.std.proofs.lemmas.List.{drop_more, drop_all}
-use Rattle.std.proofs.lemmas.Bool.{cases_order, cond-true, cond-false, lt-ltb, le-ltb, eq-eqb, and_from}
+-- How two lists compare: by their first parts, and where one is the first part of the other.
+use Rattle.std.proofs.Common.{◌≡◌, ℕ, Bool, true, false, cond, ◌&&◌, eqb, ◌⊎◌, List, [], ◌∷◌, ◌++◌, length, take, sym, refl, ap, ◌∙◌, subst, ⊎_elim, arith}
+use Rattle.std.specs.List.{starts_with}
+use Rattle.std.specs.Cmp.Lexicographic.{pointwise}
+use Rattle.std.proofs.lemmas.Bool.{cond-true, eq-eqb, and_from}
+use Rattle.std.proofs.lemmas.Bool.Decides.{Decides-eqb, same_from_decides}
 use Rattle.labels.specs.declared.cell.Cell.{Cell}
-use Rattle.machine.specs.Machine.{zero_cell}
 use Rattle.observer.specs.ObserverLaws.{FirstOf}
-use Rattle.examiner.specs.Comparison.{same_cell, compared, compared_lengths}
+use Rattle.examiner.specs.Comparison.{same_cell, compared}
 use Rattle.examiner.specs.declared.compare.Comparison.{Comparison}
 use Rattle.examiner.specs.declared.compare.Comparison.TheVariants.{Equal, LeftFirst, RightFirst, Different}
 
-module _ (left right : List Cell) (i : ℕ) where
-  abbrev rest_compared : Comparison
-  rest_compared = compared (drop i left) (drop i right)
+-- how lists compare, by whether the left one is the first part of the right, and the right one of the left
+abbrev pub by_first_parts : Bool → Bool → Comparison
+by_first_parts true true = Equal
+by_first_parts true false = LeftFirst
+by_first_parts false true = RightFirst
+by_first_parts false false = Different
 
-  -- at a place that both have
-  module _ (l : i < length left) (r : i < length right) where
-    abbrev same : Bool
-    same = same_cell (get_or left i zero_cell) (get_or right i zero_cell)
+eqb_both_ways : (a b : ℕ) → eqb a b ≡ eqb b a
+eqb_both_ways a b =
+    let d = Decides-eqb b a in
+    same_from_decides (eqb a b) (eqb b a) (Decides-eqb a b) (λ e. sym (d.0 e), λ e. d.1 (sym e))
 
-    at_place : rest_compared ≡ compared (get_or left i zero_cell ∷ drop (i + 1) left) (get_or right i zero_cell ∷ drop (i + 1) right)
-    at_place =
-        ap (λ (xs : List Cell). compared xs (drop i right)) (drop_more left i zero_cell l)
-        ∙ ap (compared (get_or left i zero_cell ∷ drop (i + 1) left)) (drop_more right i zero_cell r)
+same_both_ways : (a b : Cell) → same_cell a b ≡ same_cell b a
+same_both_ways a b = rw (eqb_both_ways a.word.0 b.word.0, eqb_both_ways a.tag.0 b.tag.0) refl
 
-    pub at_same : same ≡ true → rest_compared ≡ compared (drop (i + 1) left) (drop (i + 1) right)
-    at_same told = at_place ∙ cond-true same (compared (drop (i + 1) left) (drop (i + 1) right)) Different told
+abbrev begins : List Cell → List Cell → Bool
+begins xs ys = pointwise same_cell ys (take (length ys) xs)
 
-    pub at_different : same ≡ false → rest_compared ≡ Different
-    at_different told = at_place ∙ cond-false same (compared (drop (i + 1) left) (drop (i + 1) right)) Different told
+compared_by_parts : (left right : List Cell) → compared left right ≡ by_first_parts (begins right left) (begins left right)
+compared_by_parts [] [] = refl
+compared_by_parts [] (b ∷ right) = refl
+compared_by_parts (a ∷ left) [] = refl
+compared_by_parts (a ∷ left) (b ∷ right) =
+    subst (λ (x : Bool). compared (a ∷ left) (b ∷ right) ≡ by_first_parts (begins (b ∷ right) (a ∷ left)) (x && begins left right)) (same_both_ways a b)
+    (at_heads (same_cell a b) (begins right left) (begins left right) (compared_by_parts left right))
+  where
+    at_heads : (x p q : Bool) → compared left right ≡ by_first_parts p q → cond x (compared left right) Different ≡ by_first_parts (x && p) (x && q)
+    at_heads true p q rest = rest
+    at_heads false p q rest = refl
 
-  -- where one list ends, or both
-  pub at_end : i ≡ min (length left) (length right) → rest_compared ≡ compared_lengths (length left) (length right)
-  at_end e = ⊎_elim
-      (λ (h : length left ≡ length right).
-      let l : length left ≤ i = omega arith in
-      let r : length right ≤ i = omega arith in
-      let lengths : compared_lengths (length left) (length right) ≡ Equal = rw (le-ltb (length left) (length right) (omega arith), le-ltb (length right) (length left) (omega arith)) in
-      rw (drop_all i left l, drop_all i right r) (sym lengths))
-      (⊎_elim
-      (λ (h : length left < length right).
-      let l : length left ≤ i = omega arith in
-      let r : i < length right = omega arith in
-      let lengths : compared_lengths (length left) (length right) ≡ LeftFirst = rw (lt-ltb (length left) (length right) h) in
-      rw (drop_all i left l, drop_more right i zero_cell r) (sym lengths))
-      (λ (h : length right < length left).
-      let r : length right ≤ i = omega arith in
-      let l : i < length left = omega arith in
-      let lengths : compared_lengths (length left) (length right) ≡ RightFirst = rw (le-ltb (length left) (length right) (omega arith), lt-ltb (length right) (length left) h) in
-      rw (drop_all i right r, drop_more left i zero_cell l) (sym lengths)))
-      (cases_order (length left) (length right))
+pub compares : (left right : List Cell) (a b : Bool) → a ≡ starts_with same_cell right left → b ≡ starts_with same_cell left right → by_first_parts a b ≡ compared left right
+compares left right a b e f = rw (e, f) (sym (compared_by_parts left right))
 
 -- ── lists of which one is the first part of the other ──
 

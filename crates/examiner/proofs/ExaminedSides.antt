@@ -13,32 +13,12 @@ use Rattle.sitting.specs.Run.{RunDone, SittingRuns, sitting_run_by}
 use Rattle.examiner.specs.History.{Memory, Side, new_side, History, begins, opens, runs, pages, MayGet, memory_after_open, memory_after_run, after_open, after_run, after_page}
 use Rattle.examiner.specs.Examined.{memory, SideDone, side_done, paged_after, opened_with, examined_unless, examined_by, ExaminedUnless, ExaminedFrom, IsHistory}
 
--- ── the calls ──
-
-module _ (m : Meaning) (s : Standing) (given : Memory) (page : List Cell) (budget : ℕ) (now : Standing) (cells : List Cell) where
-  -- a refused open
-  module _ (r : Result Page Refusal) (refusal : Refusal) (is : r ≡ Err refusal) (opening : after_call (Err refusal) now cells ≡ opened_with m s given) where
-    abbrev refused_side : SideDone
-    refused_side = side_done r now cells given.outputs page
-
-    same_side : refused_side ≡ side_done (Err refusal) now cells given.outputs page
-    same_side = ap (λ (x : Result Page Refusal). side_done x now cells given.outputs page) is
-
-    pub open_refused : {E : Type 0} (answers : Answers E) (e : E) → ExaminedFrom answers m s given page budget e refused_side e
-    open_refused answers e = subst (λ (o : Opened). ExaminedUnless answers m o.answered o given page budget e refused_side e) opening (same_side, refl)
-
-    pub open_refused_by : (book : Book) → refused_side ≡ examined_by book m s given page budget
-    open_refused_by book = same_side ∙ ap (λ (o : Opened). examined_unless o.answered book m o given page budget) opening
-
-  -- a granted one, with a run
-  module _ (done : RunDone) (side : SideDone) (is : side ≡ paged_after done.answered m given.image page done) (opening : after_call (Ok tt) now cells ≡ opened_with m s given) where
-    pub open_granted : {E : Type 0} (answers : Answers E) (e e' : E) → SittingRuns answers now given.image cells given.outputs budget e done e' → ExaminedFrom answers m s given page budget e side e'
-    open_granted answers e e' run = subst (λ (o : Opened). ExaminedUnless answers m o.answered o given page budget e side e') opening (done, run, is)
-
-    pub open_granted_by : (book : Book) → done ≡ sitting_run_by book now given.image cells given.outputs budget → side ≡ examined_by book m s given page budget
-    open_granted_by book by =
-        is ∙ ap (λ (x : RunDone). paged_after x.answered m given.image page x) by
-        ∙ ap (λ (o : Opened). examined_unless o.answered book m o given page budget) opening
+-- what the calls come to after a granted open, with a run
+pub open_granted : (m : Meaning) (s : Standing) (given : Memory) (page : List Cell) (budget : ℕ) (now : Standing) (cells : List Cell) (done : RunDone) (side : SideDone)
+    → side ≡ paged_after done.answered m given.image page done → after_call (Ok tt) now cells ≡ opened_with m s given
+    → {E : Type 0} (answers : Answers E) (e e' : E) → SittingRuns answers now given.image cells given.outputs budget e done e' → ExaminedFrom answers m s given page budget e side e'
+open_granted m s given page budget now cells done side is opening answers e e' run =
+    subst (λ (o : Opened). ExaminedUnless answers m o.answered o given page budget e side e') opening (done, run, is)
 
 -- ── they are a history ──
 

@@ -12,8 +12,6 @@ use Rattle.observer.specs.ObserverMachine.{seen_at, Reaches}
 use Rattle.observer.proofs.ReachedViews.{outputs_agree, halted_has_all_outputs, halted_views_are_equal}
 use Rattle.viewing.specs.declared.peek.Location.{Location}
 use Rattle.viewing.specs.declared.peek.Location.TheVariants.{RegisterNumber, CellNumber}
-use Rattle.viewing.specs.declared.peek.Peeked.{Peeked}
-use Rattle.viewing.specs.Peek.{peeked}
 use Rattle.examiner.specs.History.{PageSeen, PeekSeen, Side}
 use Rattle.examiner.specs.Guarantee.{In, Agree}
 
@@ -27,9 +25,9 @@ module _ (sees : Tag → Bool) where
   seen_there v (CellNumber n) = seen_at sees v.cells n
 
   -- what a peek answers, as a function of the view
-  abbrev pub view_peek : ℕ → View → Location → Result Peeked Refusal
+  abbrev pub view_peek : ℕ → View → Location → Result (Option Cell) Refusal
   view_peek cell_count v at =
-      answer (check v.halted NoEndMark (check (in_range_of cell_count at) OutOfRange None)) (peeked (seen_there v at))
+      answer (check v.halted NoEndMark (check (in_range_of cell_count at) OutOfRange None)) (seen_there v at)
 
 module _ (m : Meaning) (sees : Tag → Bool) (code : List CodeEntry) (first : View) where
   -- a page shows the outputs of a reached view, and is marked if that has halted

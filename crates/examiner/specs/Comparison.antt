@@ -1,5 +1,5 @@
 -- How two pages compare.
-use Rattle.std.specs.Prelude.{ℕ, Bool, cond, ◌&&◌, List, [], ◌∷◌, ◌==◌, nat_lt}
+use Rattle.std.specs.Prelude.{ℕ, Bool, cond, ◌&&◌, List, [], ◌∷◌, ◌==◌}
 use Rattle.labels.specs.declared.cell.Cell.{Cell}
 use Rattle.examiner.specs.declared.compare.Comparison.{Comparison}
 use Rattle.examiner.specs.declared.compare.Comparison.TheVariants.{Equal, LeftFirst, RightFirst, Different}
@@ -21,7 +21,3 @@ compared [] [] = Equal
 compared [] (b ∷ right) = LeftFirst
 compared (a ∷ left) [] = RightFirst
 compared (a ∷ left) (b ∷ right) = cond (same_cell a b) (compared left right) Different
-
--- lists that have the same at each place that both have compare as their lengths do
-abbrev pub compared_lengths : ℕ → ℕ → Comparison
-compared_lengths left right = cond (nat_lt left right) LeftFirst (cond (nat_lt right left) RightFirst Equal)

@@ -6,6 +6,7 @@ use Rattle.labels.specs.declared.refusal.Refusal.{Refusal}
 use Rattle.rules.specs.Book.{Book}
 use Rattle.rules.specs.Flow.{flow}
 use Rattle.execution.specs.Step.{Answers}
+use Rattle.viewing.specs.declared.lent.LentMemory.{LentMemory}
 use Rattle.viewing.specs.declared.page.Page.{Page}
 use Rattle.sitting.specs.Sitting.{Standing, standing, blank}
 use Rattle.sitting.specs.Open.{Opened, opened}
@@ -19,6 +20,10 @@ use Rattle.examiner.specs.declared.side.SideSeen.{SideSeen}
 abbrev pub memory : List ℕ → List Cell → List Cell → Memory
 memory image cells outputs = record { image = image; cells = cells; outputs = outputs }
 
+-- what lent memory holds but for its page list
+abbrev pub memory_of : LentMemory → Memory
+memory_of lent = memory lent.image.now lent.cells.now lent.outputs.now
+
 -- what the calls on one sitting come to: the answer, and what sitting, cells, outputs and page list then hold
 pub record SideDone : Type 0 where
   pub answered : Result Page Refusal
@@ -30,8 +35,12 @@ pub record SideDone : Type 0 where
 abbrev pub side_done : Result Page Refusal → Standing → List Cell → List Cell → List Cell → SideDone
 side_done r s cells outputs page = record { answered = r; sitting = s; cells = cells; outputs = outputs; page = page }
 
-abbrev pub side_of : SideSeen → List Cell → List Cell → List Cell → SideDone
-side_of seen cells outputs page = side_done seen.page (standing seen.sitting) cells outputs page
+-- the same of what lent memory then holds
+abbrev pub side_with : Result Page Refusal → Standing → LentMemory → SideDone
+side_with r s lent = side_done r s lent.cells.now lent.outputs.now lent.page.now
+
+abbrev pub side_of : SideSeen → LentMemory → SideDone
+side_of seen lent = side_with seen.page (standing seen.sitting) lent
 
 -- After a granted run the sitting is paged; a refused run is the answer, and the page list stays.
 abbrev pub paged_after : Result ℕ Refusal → Meaning → List ℕ → List Cell → RunDone → SideDone

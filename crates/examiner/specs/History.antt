@@ -8,7 +8,6 @@ use Rattle.rules.specs.Flow.{flow}
 use Rattle.execution.specs.Step.{Answers}
 use Rattle.viewing.specs.declared.page.Page.{Page}
 use Rattle.viewing.specs.declared.peek.Location.{Location}
-use Rattle.viewing.specs.declared.peek.Peeked.{Peeked}
 use Rattle.sitting.specs.Sitting.{Standing, blank, is_halted}
 use Rattle.sitting.specs.Open.{Opened, opened}
 use Rattle.sitting.specs.Run.{RunDone, SittingRuns}
@@ -26,10 +25,10 @@ pub record PageSeen : Type 0 where
   pub outputs : List Cell
   pub marked : Bool
 
--- a peek, granted or refused: where, what it answered, and whether the sitting was halted then
+-- a peek, granted or refused: where, what it answered (none is hidden), and whether the sitting was halted then
 pub record PeekSeen : Type 0 where
   pub location : Location
-  pub answered : Result Peeked Refusal
+  pub answered : Result (Option Cell) Refusal
   pub when_halted : Bool
 
 -- one side: where its sitting stands, the memory of its granted open as it now is, and all that was seen of it

@@ -5,3 +5,4 @@ pub mod Worked
 pub mod Comparison
 pub mod Examined
 pub mod Caches
+pub mod Text

@@ -1,5 +1,5 @@
 -- The worked image with two secrets: the guarantee has something to say.
-use Rattle.std.specs.Prelude.{◌≡◌, ℕ, true, List, [], ◌∷◌, Some, Ok}
+use Rattle.std.specs.Prelude.{◌≡◌, ℕ, true, List, [], ◌∷◌, Some, None, Ok}
 use Rattle.labels.specs.Order.{tag}
 use Rattle.orders.specs.Makes.{two_point}
 use Rattle.orders.specs.declared.two_point.TwoPoint.{TwoPoint}
@@ -9,7 +9,6 @@ use Rattle.rules.specs.Engines.{AnswersBy, MeansBy}
 use Rattle.rules.specs.declared.flow_engine.FlowEngine.{FlowEngine}
 use Rattle.machine.specs.Machine.{cell, word}
 use Rattle.viewing.specs.declared.peek.Location.TheVariants.{RegisterNumber, CellNumber}
-use Rattle.viewing.specs.declared.peek.Peeked.TheVariants.{Shown, Hidden}
 use Rattle.examiner.specs.History.{Memory, PageSeen, PeekSeen, Side, History}
 use Rattle.examiner.specs.Guarantee.{AlikeImages, In, Guarantee}
 
@@ -43,10 +42,10 @@ worked_page = record { outputs = cell (word 5) (tag 0) ∷ []; marked = true }
 
 -- the peeks at the end: register 4 holds the word 5 with tag 0, and the secret cell is hidden
 abbrev pub worked_peek : PeekSeen
-worked_peek = record { location = RegisterNumber 4; answered = Ok (Shown (cell (word 5) (tag 0))); when_halted = true }
+worked_peek = record { location = RegisterNumber 4; answered = Ok (Some (cell (word 5) (tag 0))); when_halted = true }
 
 abbrev pub hidden_peek : PeekSeen
-hidden_peek = record { location = CellNumber 0; answered = Ok Hidden; when_halted = true }
+hidden_peek = record { location = CellNumber 0; answered = Ok None; when_halted = true }
 
 -- some history that was opened with an image has the worked page and both peeks
 pub record ShowsWorkedPage (image : List ℕ) : Type 0 where

@@ -3,6 +3,7 @@
 
 pub mod caches;
 pub mod compare;
+mod display;
 pub mod examine;
 pub mod guarantee;
 pub mod side;

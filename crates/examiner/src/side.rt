@@ -2,14 +2,14 @@
 ghost use Rattle.std.specs.Prelude.{◌≡◌};
 ghost use Rattle.rules.specs.Book.{Book};
 ghost use Rattle.sitting.specs.Sitting.{standing};
-ghost use Rattle.sitting.specs.Run.{run_done};
-ghost use Rattle.examiner.specs.Examined.{memory, side_done, side_of, paged_after, examined_by, ExaminedFrom, SideExamined};
+ghost use Rattle.viewing.specs.Lent.{SameLoans};
+ghost use Rattle.examiner.specs.Examined.{memory_of, side_with, side_of, examined_by, ExaminedFrom, SideExamined};
 
-use labels::cell::Cell;
 use labels::order::Order;
 use labels::refusal::Refusal;
 use rules::engine::Engine;
 use sitting::sitting::Sitting;
+use viewing::lent::LentMemory;
 use viewing::page::Page;
 use viewing::paging;
 
@@ -25,60 +25,32 @@ pub fn examine_side<O: Order, E: Engine>(
     order: &O,
     engine: &mut E,
     budget: u32,
-    image: &[u8],
-    cells: &mut [Cell],
-    outputs: &mut [Cell],
-    page: &mut [Cell],
+    lent: &mut LentMemory,
 ) -> SideSeen
-    ensures { SideExamined E.Engine.answers (O.Order.meaning order.now) E.Engine.means (memory image.now cells.old outputs.old) page.old budget engine.old (side_of result cells.new outputs.new page.new) engine.new }
+    ensures same_loans { SameLoans lent.old lent.new }
+    ensures examined { SideExamined E.Engine.answers (O.Order.meaning order.now) E.Engine.means (memory_of lent.old) lent.old.page.now budget engine.old (side_of result lent.new) engine.new }
 {
     let mut sitting = Sitting::new();
-    let page = open_run_page(
-        &mut sitting,
-        order,
-        engine,
-        budget,
-        image,
-        cells,
-        outputs,
-        page,
-    );
+    let page = open_run_page(&mut sitting, order, engine, budget, lent);
     SideSeen { sitting, page }
 }
 
 // Opens, runs and pages a sitting, up to the first refusal.
-fn open_run_page<O: Order, E: Engine>(
+pub fn open_run_page<O: Order, E: Engine>(
     sitting: &mut Sitting,
     order: &O,
     engine: &mut E,
     budget: u32,
-    image: &[u8],
-    cells: &mut [Cell],
-    outputs: &mut [Cell],
-    page: &mut [Cell],
+    lent: &mut LentMemory,
 ) -> Result<Page, Refusal>
-    ensures examined { ExaminedFrom E.Engine.answers (O.Order.meaning order.now) (standing sitting.old) (memory image.now cells.old outputs.old) page.old budget engine.old (side_done result (standing sitting.new) cells.new outputs.new page.new) engine.new }
-    ensures by_book { (book : Book) → E.Engine.means engine.old book → (side_done result (standing sitting.new) cells.new outputs.new page.new ≡ examined_by book (O.Order.meaning order.now) (standing sitting.old) (memory image.now cells.old outputs.old) page.old budget) × E.Engine.means engine.new book }
+    ensures same_loans { SameLoans lent.old lent.new }
+    ensures examined { ExaminedFrom E.Engine.answers (O.Order.meaning order.now) (standing sitting.old) (memory_of lent.old) lent.old.page.now budget engine.old (side_with result (standing sitting.new) lent.new) engine.new }
+    ensures by_book { (book : Book) → E.Engine.means engine.old book → (side_with result (standing sitting.new) lent.new ≡ examined_by book (O.Order.meaning order.now) (standing sitting.old) (memory_of lent.old) lent.old.page.now budget) × E.Engine.means engine.new book }
 {
+    let image = lent.image;
+    let cells = &mut *lent.cells;
+    let outputs = &mut *lent.outputs;
     sitting.open(order, image, cells, outputs)?;
-    let run = sitting.run(engine, budget, image, cells, outputs);
-    page_after(run, sitting, order, image, cells, outputs, page)
-}
-
-// Pages a sitting after a granted run; a refused run is the answer.
-fn page_after<O: Order>(
-    run: Result<u32, Refusal>,
-    sitting: &Sitting,
-    order: &O,
-    image: &[u8],
-    cells: &[Cell],
-    outputs: &[Cell],
-    page: &mut [Cell],
-) -> Result<Page, Refusal>
-    ensures { side_done result (standing sitting.now) cells.now outputs.now page.new ≡ paged_after run (O.Order.meaning order.now) image.now page.old (run_done run (standing sitting.now) cells.now outputs.now) }
-{
-    match run {
-        Ok(_) => paging::page(sitting, order, image, cells, outputs, page),
-        Err(refusal) => Err(refusal),
-    }
+    sitting.run(engine, budget, image, cells, outputs)?;
+    paging::page(sitting, order, image, cells, outputs, lent.page)
 }

@@ -1,6 +1,5 @@
 -- The lemmas that this crate's proofs share.
-pub mod CodeEntries
-pub mod Questions
+pub mod Asked
 pub mod Steps
 pub mod RunsByBook
 pub mod RunLoop

@@ -1,10 +1,11 @@
 -- The laws of runs, proved over any engine.
 use Rattle.std.proofs.Common.{◌≡◌, ℕ, zero, suc, ◌+◌, ◌≤◌, min, true, cond, eqb, List, [], ◌∷◌, length, Some, None, Ok, Err, sym, refl, ap, ◌∙◌, subst, arith, length-set}
+use Rattle.std.proofs.Math.Nat.{suc-add, zero-add, add-zero}
 use Rattle.labels.specs.declared.cell.Tag.{Tag}
 use Rattle.image.specs.declared.entry.CodeEntry.{CodeEntry}
 use Rattle.instructions.specs.declared.instruction.Instruction.{Instruction}
-use Rattle.instructions.specs.declared.instruction.Class.{Class}
-use Rattle.instructions.specs.declared.instruction.Class.TheVariants.{Nop, Const, Mov, Bin, Load, Store, Jump, Bnz, Goto, Call, Ret, Out, Raise, Halt}
+use Rattle.rules.specs.declared.class.Class.{Class}
+use Rattle.rules.specs.declared.class.Class.TheVariants.{Const, Mov, Bin, Load, Store, Ret, Out, Raise}
 use Rattle.rules.specs.Book.{Verdict}
 use Rattle.rules.specs.declared.query.Query.{Query}
 use Rattle.machine.specs.declared.frames.Frame.{Frame}
@@ -18,50 +19,34 @@ use Rattle.machine.specs.Effect.{MachineState, fault, return_by, effect, progres
 use Rattle.execution.specs.Step.{Question, Outcome, Answers, Settles, StepsTo, question, outcome, after}
 use Rattle.execution.specs.Run.{RunsTo, budget_used, halts, ends, goes_on}
 use Rattle.execution.specs.RunLaws.{TwoRunsTo, halted_first, ended_first, both, SameLengths, counting, questions, RunsLeadTo, no_run, one_run, RunLaws}
-use Rattle.execution.proofs.Steps.{never, asked_without_fault, granted, ended_unchanged}
+use Rattle.execution.proofs.Asked.{asked}
+use Rattle.execution.proofs.Steps.{granted, ended_unchanged}
 
 -- ── what one instruction does to the counts and lengths ──
 
 -- a return without a frame is a fault
 returned_steps : (fs : List Frame) (next : Tag) (h : Held) → cond (eqb (length fs) 0) (Some NoFrame) None ≡ None → (return_by fs next h).steps ≡ min (h.steps + 1) greatest_count
-returned_steps [] next h e = let z : ◌≡◌ {A = ℕ} 0 1 = cc in let b : ⊥ = omega arith in absurd b
+returned_steps [] next h e = grind arith
 returned_steps (f ∷ fs) next h e = refl
 
 effect_steps : (c : Class) (i : Instruction) (next result : Tag) (s : MachineState) → fault c i s ≡ None → (effect c i next result s).held.steps ≡ min (s.held.steps + 1) greatest_count
-effect_steps Nop i next result s f = refl
-effect_steps Const i next result s f = refl
-effect_steps Mov i next result s f = refl
-effect_steps Bin i next result s f = refl
-effect_steps Load i next result s f = refl
-effect_steps Store i next result s f = refl
-effect_steps Jump i next result s f = refl
-effect_steps Bnz i next result s f = refl
-effect_steps Goto i next result s f = refl
-effect_steps Call i next result s f = refl
 effect_steps Ret i next result s f = returned_steps s.held.frames next s.held f
-effect_steps Out i next result s f = refl
-effect_steps Raise i next result s f = refl
-effect_steps Halt i next result s f = refl
+effect_steps _ i next result s f = refl
 
 returned_registers : (fs : List Frame) (next : Tag) (h : Held) → length (return_by fs next h).registers ≡ length h.registers
 returned_registers [] next h = refl
 returned_registers (f ∷ fs) next h = refl
 
 effect_lengths : (c : Class) (i : Instruction) (next result : Tag) (s : MachineState) → SameLengths s (effect c i next result s)
-effect_lengths Nop i next result s = (refl, refl, refl)
 effect_lengths Const i next result s = (length-set _ _ _, refl, refl)
 effect_lengths Mov i next result s = (length-set _ _ _, refl, refl)
 effect_lengths Bin i next result s = (length-set _ _ _, refl, refl)
 effect_lengths Load i next result s = (length-set _ _ _, refl, refl)
 effect_lengths Store i next result s = (refl, length-set _ _ _, refl)
-effect_lengths Jump i next result s = (refl, refl, refl)
-effect_lengths Bnz i next result s = (refl, refl, refl)
-effect_lengths Goto i next result s = (refl, refl, refl)
-effect_lengths Call i next result s = (refl, refl, refl)
 effect_lengths Ret i next result s = (returned_registers s.held.frames next s.held, refl, refl)
 effect_lengths Out i next result s = (refl, refl, length-set _ _ _)
 effect_lengths Raise i next result s = (length-set _ _ _, refl, refl)
-effect_lengths Halt i next result s = (refl, refl, refl)
+effect_lengths _ i next result s = (refl, refl, refl)
 
 -- ── what every granted step keeps ──
 
@@ -101,7 +86,7 @@ module _ {E : Type 0} (answers : Answers E) (code : List CodeEntry) where
   step_counted s s' e e' p h =
       let g = granted answers code s s' e e' p h in
       let i = g.instruction in
-      ap (λ (t : MachineState). t.held.steps) g.changed ∙ effect_steps i.class i g.tags.0 g.tags.1 s (asked_without_fault s i g.query code g.asked)
+      ap (λ (t : MachineState). t.held.steps) g.changed ∙ effect_steps i.class i g.tags.0 g.tags.1 s (asked code s i g.query g.asked).no_fault
 
   step_lengths : (s s' : MachineState) (e e' : E) (p : Progress) → StepsTo answers code s e (Ok p) s' e' → SameLengths s s'
   step_lengths s s' e e' p h =
@@ -135,40 +120,26 @@ module _ {E : Type 0} (answers : Answers E) (code : List CodeEntry) where
 
   longer : (m : ℕ) {n g : ℕ} {s s' : MachineState} {e e' : E} {r : Outcome} → RunsTo answers code n s e r g s' e' → (r ≡ Ok GoesOn → ⊥) → RunsTo answers code (n + m) s e r g s' e'
   longer m budget_used over = absurd (over refl)
-  longer m (halts {n = n} {s = s} {s' = s'} {e = e} {e' = e'} h) over =
-      let k : suc (n + m) ≡ suc n + m = omega arith in
-      subst (λ b. RunsTo answers code b s e (Ok Halts) 1 s' e') k (halts h)
-  longer m (ends {n = n} {s = s} {s' = s'} {e = e} {e' = e'} {x = x} h) over =
-      let k : suc (n + m) ≡ suc n + m = omega arith in
-      subst (λ b. RunsTo answers code b s e (Err x) 0 s' e') k (ends h)
-  longer m (goes_on {n = n} {g = g} {s = s} {s' = s'} {e = e} {e' = e'} {r = r} h rest) over =
-      let k : suc (n + m) ≡ suc n + m = omega arith in
-      subst (λ b. RunsTo answers code b s e r (suc g) s' e') k (goes_on h (longer m rest over))
+  longer m (halts h) over = simp suc-add (halts h)
+  longer m (ends h) over = simp suc-add (ends h)
+  longer m (goes_on h rest) over = simp suc-add (goes_on h (longer m rest over))
 
   -- a run that goes on, and then another
   joined : {n m g h : ℕ} {s s₁ s' : MachineState} {e e₁ e' : E} {r₀ r : Outcome} → RunsTo answers code n s e r₀ g s₁ e₁ → r₀ ≡ Ok GoesOn → RunsTo answers code m s₁ e₁ r h s' e' → RunsTo answers code (n + m) s e r (g + h) s' e'
-  joined {m = m} {h = h} {s' = s'} {e' = e'} {r = r} (budget_used {s = s} {e = e}) on second =
-      let b : m ≡ 0 + m = omega arith in
-      let g : h ≡ 0 + h = omega arith in
-      subst (λ x. RunsTo answers code x s e r (0 + h) s' e') b (subst (λ x. RunsTo answers code m s e r x s' e') g second)
-  joined (halts step) on second = let z : ◌≡◌ {A = ℕ} 0 1 = cc in let b : ⊥ = omega arith in absurd b
-  joined (ends {x = x} step) on second = never GoesOn x (sym on)
-  joined {m = m} {h = h} {s' = s'} {e' = e'} {r = r} (goes_on {n = n} {g = g} {s = s} {e = e} step rest) on second =
-      let b : suc (n + m) ≡ suc n + m = omega arith in
-      let c : suc (g + h) ≡ suc g + h = omega arith in
-      subst (λ x. RunsTo answers code x s e r (suc g + h) s' e') b (subst (λ x. RunsTo answers code (suc (n + m)) s e r x s' e') c (goes_on step (joined rest on second)))
+  joined budget_used on second = simp zero-add second
+  joined (halts step) on second = grind arith
+  joined (ends step) on second = grind arith
+  joined (goes_on step rest) on second = simp suc-add (goes_on step (joined rest on second))
 
   parts_make_a_run : {n m g : ℕ} {s s' : MachineState} {e e' : E} {r : Outcome} → TwoRunsTo answers code n m s e r g s' e' → RunsTo answers code (n + m) s e r g s' e'
-  parts_make_a_run {m = m} (halted_first h) = longer m h (λ p. let z : ◌≡◌ {A = ℕ} 0 1 = cc in omega arith)
-  parts_make_a_run {m = m} (ended_first {x = x} h) = longer m h (λ p. never GoesOn x (sym p))
+  parts_make_a_run {m = m} (halted_first h) = longer m h (λ p. grind arith)
+  parts_make_a_run {m = m} (ended_first h) = longer m h (λ p. grind arith)
   parts_make_a_run (both first second) = joined first refl second
 
   one_more_first : {n m g : ℕ} {s s₁ s' : MachineState} {e e₁ e' : E} {r : Outcome} → StepsTo answers code s e (Ok GoesOn) s₁ e₁ → TwoRunsTo answers code n m s₁ e₁ r g s' e' → TwoRunsTo answers code (suc n) m s e r (suc g) s' e'
   one_more_first step (halted_first h) = halted_first (goes_on step h)
   one_more_first step (ended_first h) = ended_first (goes_on step h)
-  one_more_first {n} {m} {s = s} {s' = s'} {e = e} {e' = e'} {r = r} step (both {g = g} {h = h} first second) =
-      let c : suc g + h ≡ suc (g + h) = omega arith in
-      subst (λ x. TwoRunsTo answers code (suc n) m s e r x s' e') c (both (goes_on step first) second)
+  one_more_first step (both {g = g} {h = h} first second) = rw (← suc-add g h) (both (goes_on step first) second)
 
   first_step : {k n m g : ℕ} {s s' : MachineState} {e e' : E} {r : Outcome} → ((g₁ : ℕ) (s₁ : MachineState) (e₁ : E) → RunsTo answers code k s₁ e₁ r g₁ s' e' → TwoRunsTo answers code n m s₁ e₁ r g₁ s' e')
       → RunsTo answers code (suc k) s e r g s' e' → TwoRunsTo answers code (suc n) m s e r g s' e'
@@ -177,13 +148,8 @@ module _ {E : Type 0} (answers : Answers E) (code : List CodeEntry) where
   first_step split (goes_on {g = g} {s₁ = s₁} {e₁ = e₁} step rest) = one_more_first step (split g s₁ e₁ rest)
 
   runs_have_parts : (n m g : ℕ) (s s' : MachineState) (e e' : E) (r : Outcome) → RunsTo answers code (n + m) s e r g s' e' → TwoRunsTo answers code n m s e r g s' e'
-  runs_have_parts zero m g s s' e e' r h =
-      let b : 0 + m ≡ m = omega arith in
-      let c : 0 + g ≡ g = omega arith in
-      subst (λ x. TwoRunsTo answers code 0 m s e r x s' e') c (both budget_used (subst (λ x. RunsTo answers code x s e r g s' e') b h))
-  runs_have_parts (suc n) m g s s' e e' r h =
-      let b : suc n + m ≡ suc (n + m) = omega arith in
-      first_step (λ g₁ s₁ e₁ rest. runs_have_parts n m g₁ s₁ s' e₁ e' r rest) (subst (λ x. RunsTo answers code x s e r g s' e') b h)
+  runs_have_parts zero m g s s' e e' r h = rw (← zero-add g) (both budget_used (rw (zero-add m) at h))
+  runs_have_parts (suc n) m g s s' e e' r h = first_step (λ g₁ s₁ e₁ rest. runs_have_parts n m g₁ s₁ s' e₁ e' r rest) (rw (suc-add n m) at h)
 
   -- ── questions ──
 
@@ -217,14 +183,10 @@ module _ {E : Type 0} (answers : Answers E) (code : List CodeEntry) where
   more_questions (Err (Violated v)) k g = omega arith
 
   questions_are_counted : {n g : ℕ} {s s' : MachineState} {e e' : E} {r : Outcome} (k : ℕ) → RunsTo answers code n s e r g s' e' → RunsTo (counting answers) code n s (e, k) r g s' (e', k + questions r g)
-  questions_are_counted k (budget_used {s = s} {e = e}) =
-      let same : k ≡ k + 0 = omega arith in
-      subst (λ (c : ℕ). RunsTo (counting answers) code 0 s (e, k) (Ok GoesOn) 0 s (e, c)) same budget_used
-  questions_are_counted k (halts {s = s} {s' = s'} {e = e} {e' = e'} h) = halts (step_asks s s' e e' (Ok Halts) k h)
-  questions_are_counted k (ends {n = n} {s = s} {s' = s'} {e = e} {e' = e'} {x = x} h) =
-      subst (λ (c : ℕ). RunsTo (counting answers) code (suc n) s (e, k) (Err x) 0 s' (e', k + c)) (ended_questions x) (ends (step_asks s s' e e' (Err x) k h))
-  questions_are_counted k (goes_on {n = n} {g = g} {s = s} {s₁ = s₁} {s' = s'} {e = e} {e₁ = e₁} {e' = e'} {r = r} h rest) =
-      subst (λ (c : ℕ). RunsTo (counting answers) code (suc n) s (e, k) r (suc g) s' (e', c)) (more_questions r k g) (goes_on (step_asks s s₁ e e₁ (Ok GoesOn) k h) (questions_are_counted (k + 1) rest))
+  questions_are_counted k budget_used = simp add-zero budget_used
+  questions_are_counted k (halts h) = halts (step_asks _ _ _ _ _ k h)
+  questions_are_counted k (ends {x = x} h) = rw (← ended_questions x) (ends (step_asks _ _ _ _ _ k h))
+  questions_are_counted k (goes_on {g = g} {r = r} h rest) = rw (← more_questions r k g) (goes_on (step_asks _ _ _ _ _ k h) (questions_are_counted (k + 1) rest))
 
 pub run_laws : {E : Type 0} (answers : Answers E) → RunLaws answers
 run_laws answers = record {

@@ -8,7 +8,11 @@ use Rattle.machine.specs.Effect.{MachineState}
 use Rattle.execution.specs.Step.{Question, Outcome, Answers, Settles, StepsTo, question, outcome, after, settle_by, step_by}
 use Rattle.execution.specs.Run.{RunsTo, budget_used, halts, ends, goes_on, ran, one_more, continue_by, run_by}
 
-module _ {E : Type 0} (answers : Answers E) (means : E → Book → Type 0) (faithful : (before : E) (q : Query) (v : Verdict) (after : E) (b : Book) → answers before q v after → means before b → (v ≡ b q) × means after b) (code : List CodeEntry) (book : Book) where
+-- an engine that means a book answers by it, and means it afterwards
+abbrev pub Faithful : {E : Type 0} → Answers E → (E → Book → Type 0) → Type 0
+Faithful {E} answers means = (before : E) (q : Query) (v : Verdict) (after : E) (b : Book) → answers before q v after → means before b → (v ≡ b q) × means after b
+
+module _ {E : Type 0} (answers : Answers E) (means : E → Book → Type 0) (faithful : Faithful answers means) (code : List CodeEntry) (book : Book) where
   abbrev ByBook : Outcome → MachineState → E → Outcome × MachineState → Type 0
   ByBook r s' e' x = (r ≡ x.0) × (s' ≡ x.1) × means e' book
 
@@ -23,7 +27,7 @@ module _ {E : Type 0} (answers : Answers E) (means : E → Book → Type 0) (fai
   steps_by_book s s' e e' r h m = settles_by_book (question code s) s e r s' e' h m
 
   continues : (n : ℕ) (s : MachineState) (r : Outcome) (s₁ : MachineState) → r ≡ (step_by book code s).0 → s₁ ≡ (step_by book code s).1 → continue_by (run_by book code n) r s₁ ≡ run_by book code (suc n) s
-  continues n s r s₁ p c = ap (λ x. continue_by (run_by book code n) x s₁) p ∙ ap (λ x. continue_by (run_by book code n) (step_by book code s).0 x) c
+  continues n s r s₁ p c = rw (p, c) refl
 
   pub runs_by_book : {n g : ℕ} {s s' : MachineState} {e e' : E} {r : Outcome} → RunsTo answers code n s e r g s' e' → means e book → (ran r g s' ≡ run_by book code n s) × means e' book
   runs_by_book budget_used m = (refl, m)

@@ -1,2 +1,2 @@
--- The lemmas that this crate's proofs share.
-pub mod TagChecks
+-- The lemmas that the proofs of this crate and of those above share.
+pub mod Ranges

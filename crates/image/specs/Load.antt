@@ -1,5 +1,5 @@
 -- What loading an image does: the checks in their order, and what they come to.
-use Rattle.std.specs.Prelude.{ℕ, ◌+◌, Bool, cond, List, [], ◌∷◌, ◌++◌, map, length, Some, None, Ok, Err, Option, Result, ◌==◌, nat_le}
+use Rattle.std.specs.Prelude.{◌≡◌, ℕ, ◌+◌, Bool, true, cond, List, [], ◌∷◌, ◌++◌, map, length, Some, None, Ok, Err, Option, Result, ◌==◌, nat_le}
 use Rattle.labels.specs.Order.{Meaning, is_named}
 use Rattle.labels.specs.declared.cell.Tag.{Tag}
 use Rattle.labels.specs.declared.cell.Cell.{Cell}
@@ -51,6 +51,16 @@ entry_tags image = tags_of (code_of image) (cells_of image)
 abbrev pub check_labels : (Tag → Bool) → ℕ → List Tag → Option Refusal
 check_labels label place [] = None
 check_labels label place (t ∷ ts) = label_check label t place (check_labels label (place + 1) ts)
+
+-- What a check of a list answers, behind so many entries, whatever its elements are read as entries by.
+abbrev pub EntriesChecked : {E : Type 0} → (E → CodeEntry → Type 0) → Meaning → ℕ → List E → Result (Unit {0}) Refusal → Type 0
+EntriesChecked {E} reads_as m before es answered =
+    (read : E → CodeEntry) → ((e : E) (entry : CodeEntry) → reads_as e entry → entry ≡ read e) → answered ≡ answer (check_labels m.label (before + 1) (map (λ (e : E). (read e).tag) es)) tt
+
+-- What a test of a list answers, whatever its elements are read as entries by: if it passes, no check of the list refuses.
+abbrev pub AllLabelled : {E : Type 0} → (E → CodeEntry → Type 0) → Meaning → List E → Bool → Type 0
+AllLabelled {E} reads_as m es passed =
+    (read : E → CodeEntry) → ((e : E) (entry : CodeEntry) → reads_as e entry → entry ≡ read e) → passed ≡ true → (place : ℕ) → check_labels m.label place (map (λ (e : E). (read e).tag) es) ≡ None
 
 -- the checks of the entries' labels, whose places are counted from 1
 abbrev pub entries_refusal : Meaning → List ℕ → Option Refusal

@@ -1,6 +1,6 @@
 // The header: version, order, counts and reader, in the image's first eight bytes.
-ghost use Rattle.std.specs.Prelude.{◌≡◌, ◌+◌, ◌<◌, ◌≤◌, true, length};
-ghost use Rattle.image.specs.Layout.{u16_at, counts_fit, entry_count, length_of_image, header_of};
+ghost use Rattle.std.specs.Prelude.{◌≡◌, ◌≤◌, true};
+ghost use Rattle.image.specs.Layout.{counts_fit, entry_count, length_of_image, header_of};
 ghost use Rattle.image.specs.Load.{header_read, version_checked, counts_checked};
 ghost use Rattle.image.specs.declared.header.Counts.{Counts};
 
@@ -24,13 +24,13 @@ pub const LONGEST_IMAGE: usize = HEADER_LENGTH
     + ENTRY_LENGTH * (CODE_LIMIT as usize + CELL_LIMIT as usize);
 
 // How many code entries and how many cells an image has.
-#[derive(Clone, Copy)]
+#[derive(Clone, Copy, Default)]
 pub struct Counts {
     pub code: u16,
     pub cells: u16,
 }
 
-#[derive(Clone, Copy)]
+#[derive(Clone, Copy, Default)]
 pub struct Header {
     pub version: u8,
     pub order: OrderName,
@@ -75,31 +75,47 @@ impl Counts {
     }
 }
 
+impl From<[u8; HEADER_LENGTH]> for Header {
+    ghost from_gives = { λ bytes header. header ≡ header_of bytes };
+
+    fn from(bytes: [u8; HEADER_LENGTH]) -> Header {
+        let [
+            version_and_kind,
+            p_and_q,
+            code_high,
+            code_low,
+            cells_high,
+            cells_low,
+            reader_high,
+            reader_low,
+        ] = bytes;
+        Header {
+            version: version_and_kind / 16,
+            order: OrderName {
+                kind: version_and_kind % 16,
+                parameters: Parameters {
+                    p: p_and_q / 16,
+                    q: p_and_q % 16,
+                },
+            },
+            counts: Counts {
+                code: u16::from_be_bytes([code_high, code_low]),
+                cells: u16::from_be_bytes([cells_high, cells_low]),
+            },
+            reader: Tag(u16::from_be_bytes([reader_high, reader_low])),
+        }
+    }
+}
+
 impl Header {
     // The header of an image that is long enough to have one.
     pub fn read(image: &[u8]) -> Result<Header, Refusal>
         ensures { result ≡ header_read image.now }
     {
-        if image.len() < HEADER_LENGTH {
-            return Err(Refusal::ImageTooShort);
-        }
-        let order = OrderName {
-            kind: image[0] % 16,
-            parameters: Parameters {
-                p: image[1] / 16,
-                q: image[1] % 16,
-            },
-        };
-        let counts = Counts {
-            code: u16_at(image, 2),
-            cells: u16_at(image, 4),
-        };
-        Ok(Header {
-            version: image[0] / 16,
-            order,
-            counts,
-            reader: Tag(u16_at(image, 6)),
-        })
+        let bytes = image
+            .first_chunk::<HEADER_LENGTH>()
+            .ok_or(Refusal::ImageTooShort)?;
+        Ok(Header::from(*bytes))
     }
 
     // Refused for a version other than 1.
@@ -120,12 +136,4 @@ pub fn longest_image() -> usize
     ensures none_longer { (n : Counts) → counts_fit n ≡ true → length_of_image n ≤ result }
 {
     LONGEST_IMAGE
-}
-
-// The two bytes from a place on as a number.
-pub(crate) fn u16_at(bytes: &[u8], at: usize) -> u16
-    requires { at + 2 ≤ length bytes.now }
-    ensures { result ≡ u16_at bytes.now at }
-{
-    u16::from(bytes[at]) * 256 + u16::from(bytes[at + 1])
 }

@@ -1,24 +1,8 @@
--- Instructions: the number of each class, and how 32 bits are decoded.
+-- Instructions: how 32 bits are decoded.
 use Rattle.std.specs.Prelude.{ℕ, ◌/◌, ◌%◌, ◌^◌, ◌<◌, Bool, cond, ◌&&◌, Some, None, Option, ◌==◌, nat_eq, nat_le}
-use Rattle.instructions.specs.declared.instruction.Class.{Class}
-use Rattle.instructions.specs.declared.instruction.Class.TheVariants.{Nop, Const, Mov, Bin, Load, Store, Jump, Bnz, Goto, Call, Ret, Out, Raise, Halt}
+use Rattle.rules.specs.declared.class.Class.{Class}
+use Rattle.rules.specs.declared.class.Class.TheVariants.{Nop, Const, Mov, Bin, Load, Store, Jump, Bnz, Goto, Call, Ret, Out, Raise, Halt}
 use Rattle.instructions.specs.declared.instruction.Instruction.{Instruction}
-
-abbrev pub class_number : Class → ℕ
-class_number Nop = 0
-class_number Const = 1
-class_number Mov = 2
-class_number Bin = 3
-class_number Load = 4
-class_number Store = 5
-class_number Jump = 6
-class_number Bnz = 7
-class_number Goto = 8
-class_number Call = 9
-class_number Ret = 10
-class_number Out = 11
-class_number Raise = 12
-class_number Halt = 13
 
 -- the four bits of a number from a place on
 abbrev pub four_bits : ℕ → ℕ → ℕ

@@ -4,7 +4,8 @@ ghost use Rattle.instructions.specs.Functions.{add, subtract, bits_and, bits_or,
 
 use labels::cell::Word;
 
-// The function of a number; a number above 8 is not decoded.
+// The function of a number. The number stays plain: the k of an instruction is also that of CONST, BNZ, GOTO and CALL, so that
+// an enum of the functions would need another field, for BIN alone.
 pub fn binary(k: u16, a: Word, b: Word) -> Word
     ensures { result ≡ binary k a b }
 {
@@ -54,23 +55,23 @@ pub fn bits_xor(a: Word, b: Word) -> Word
 pub fn shift_left(a: Word, b: Word) -> Word
     ensures { result ≡ shift_left a b }
 {
-    Word(if b.0 < 32 { a.0 << b.0 } else { 0 })
+    Word(a.0.checked_shl(b.0).unwrap_or(0))
 }
 
 pub fn shift_right(a: Word, b: Word) -> Word
     ensures { result ≡ shift_right a b }
 {
-    Word(if b.0 < 32 { a.0 >> b.0 } else { 0 })
+    Word(a.0.checked_shr(b.0).unwrap_or(0))
 }
 
 pub fn is_less(a: Word, b: Word) -> Word
     ensures { result ≡ is_less a b }
 {
-    Word((a.0 < b.0) as u32)
+    Word(u32::from(a.0 < b.0))
 }
 
 pub fn is_equal(a: Word, b: Word) -> Word
     ensures { result ≡ is_equal a b }
 {
-    Word((a.0 == b.0) as u32)
+    Word(u32::from(a.0 == b.0))
 }

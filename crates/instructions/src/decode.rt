@@ -1,16 +1,9 @@
 // Decoding: the instruction that 32 bits encode, or none where they are illegal.
 ghost use Rattle.std.specs.Prelude.{◌≡◌, ◌<◌, ◌≤◌, IfSome};
-ghost use Rattle.instructions.specs.Instruction.{class_number, four_bits, op_of, k_of, decode, decode_fields, NamesRegisters};
+ghost use Rattle.instructions.specs.Instruction.{four_bits, op_of, k_of, decode, decode_fields, NamesRegisters};
 
-use crate::instruction::{Class, Instruction};
-
-impl Class {
-    pub fn number(self) -> u8
-        ensures { result ≡ class_number self }
-    {
-        self as u8
-    }
-}
+use crate::instruction::Instruction;
+use rules::class::Class;
 
 // The four bits from a place on.
 fn four_bits(bits: u32, at: u32) -> u8

@@ -1,25 +1,9 @@
 // An instruction: its class and its fields.
 
-// The class of an instruction; its place in this list is its number, which is also the op that encodes it.
-#[derive(Clone, Copy)]
-pub enum Class {
-    Nop,
-    Const,
-    Mov,
-    Bin,
-    Load,
-    Store,
-    Jump,
-    Bnz,
-    Goto,
-    Call,
-    Ret,
-    Out,
-    Raise,
-    Halt,
-}
+use rules::class::Class;
 
 // The fields d, a and b name registers, and k is a number; a field that the class does not name is 0.
+// They are plain numbers: a type for a register's number would put proofs into the definition of decoding.
 #[derive(Clone, Copy)]
 pub struct Instruction {
     pub class: Class,

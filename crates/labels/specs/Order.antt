@@ -44,6 +44,9 @@ pub record Laws (m : Meaning) : Type 0 where
 abbrev pub parameters_of : Meaning → Parameters
 parameters_of m = record { p = m.p; q = m.q }
 
+abbrev pub name_of : Meaning → OrderName
+name_of m = record { kind = m.kind; parameters = parameters_of m }
+
 -- a name is the order's if kind and parameters are
 abbrev pub is_named : Meaning → OrderName → Bool
 is_named m n = (m.kind == n.kind && m.p == n.parameters.p) && m.q == n.parameters.q

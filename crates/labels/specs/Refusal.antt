@@ -1,5 +1,5 @@
--- The number of each refusal, and its place for the one that has a place.
-use Rattle.std.specs.Prelude.{ℕ, Some, None, Option}
+-- The number of each refusal, its place for the one that has a place, and what is printed of it.
+use Rattle.std.specs.Prelude.{ℕ, Some, None, Option, List, ◌++◌, codes, decimal}
 use Rattle.labels.specs.declared.refusal.Refusal.{Refusal}
 use Rattle.labels.specs.declared.refusal.Refusal.TheVariants.{ImageTooShort, UnknownVersion, WrongOrder, CountOutsideLimits, WrongImageLength, NotALabel, WrongLength, WrongState, NoEndMark, OutOfRange, WrongTableSize, WrongSlotLength}
 
@@ -30,3 +30,11 @@ refusal_place NoEndMark = None
 refusal_place OutOfRange = None
 refusal_place WrongTableSize = None
 refusal_place WrongSlotLength = None
+
+-- a number, and behind a space the place if there is one
+abbrev pub numbered : ℕ → Option ℕ → List ℕ
+numbered number None = decimal number
+numbered number (Some place) = decimal number ++ (codes " " ++ decimal place)
+
+abbrev pub refusal_text : Refusal → List ℕ
+refusal_text r = numbered (refusal_number r) (refusal_place r)

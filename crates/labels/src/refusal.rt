@@ -1,8 +1,11 @@
 // Why a call was refused: each case has the number that users are told.
-ghost use Rattle.std.specs.Prelude.{◌≡◌};
-ghost use Rattle.labels.specs.Refusal.{refusal_number, refusal_place};
+ghost use Rattle.std.specs.Prelude.{◌≡◌, Some};
+ghost use Rattle.labels.specs.Refusal.{refusal_number, refusal_place, refusal_text};
 
-#[derive(Clone, Copy)]
+use std::error::Error;
+use std::fmt;
+
+#[derive(Clone, Copy, Debug, PartialEq, Eq)]
 pub enum Refusal {
     // An image of fewer bytes than a header has.
     ImageTooShort,
@@ -31,7 +34,7 @@ pub enum Refusal {
 }
 
 impl Refusal {
-    // The number that users are told.
+    // The number that users are told. (An enum with a field in one case has no `as u8`.)
     pub fn number(self) -> u8
         ensures { result ≡ refusal_number self }
     {
@@ -61,3 +64,18 @@ impl Refusal {
         }
     }
 }
+
+// The number, and behind a space the place if there is one.
+impl fmt::Display for Refusal {
+    ghost output = { λ r. Some (refusal_text r) };
+
+    fn fmt<W: fmt::Write>(&self, f: &mut fmt::Formatter<W>) -> fmt::Result {
+        let number = self.number();
+        match self.place() {
+            Some(place) => write!(f, "{number} {place}"),
+            None => write!(f, "{number}"),
+        }
+    }
+}
+
+impl Error for Refusal {}

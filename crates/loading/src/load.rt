@@ -1,10 +1,12 @@
 // The checks of an image in their order, and the copy of its cells.
-ghost use Rattle.std.specs.Prelude.{◌≡◌, ◌+◌, ◌-◌, ◌*◌, ◌≤◌, true, length, IfOk};
-ghost use Rattle.image.specs.Layout.{header_of, counts_fit, length_of_image, tag_at, code_entry_at, cell_entry_at, cells_of};
-ghost use Rattle.image.specs.Load.{answer, load_refusal, entries_refusal, tag_checked, load_answer, load_cells};
+ghost use Rattle.std.specs.Prelude.{◌≡◌, ◌+◌, ◌-◌, ◌*◌, ◌/◌, ◌^◌, ◌<◌, ◌≤◌, map, length, drop, IfOk};
+ghost use Rattle.std.specs.Simd.{first_chunks};
+ghost use Rattle.image.specs.Entry.{entry_of_bytes, entry_cell};
+ghost use Rattle.image.specs.Layout.{header_of, length_of_image};
+ghost use Rattle.image.specs.Load.{answer, load_refusal, EntriesChecked, AllLabelled, tag_checked, load_answer, load_cells};
 
-use image::entry::{CodeEntry, read_code};
-use image::header::{Counts, Header};
+use image::entry::CodeEntry;
+use image::header::{Counts, ENTRY_LENGTH, HEADER_LENGTH, Header};
 use labels::cell::{Cell, Tag, Word};
 use labels::order::{Order, has_name};
 use labels::refusal::Refusal;
@@ -17,15 +19,15 @@ pub fn load<O: Order>(order: &O, image: &[u8], cells: &mut [Cell]) -> Result<Hea
     ensures cells { cells.new ≡ load_cells (O.meaning order.now) image.now cells.old }
 {
     let header = check(order, image, cells.len())?;
-    copy_cells(image, header.counts, cells);
+    let behind_code = HEADER_LENGTH + ENTRY_LENGTH * header.counts.code as usize;
+    copy_cells(entries_from(image, behind_code), cells);
     Ok(header)
 }
 
 // The checks in their order.
 fn check<O: Order>(order: &O, image: &[u8], cells: usize) -> Result<Header, Refusal>
     ensures answer { result ≡ answer (load_refusal (O.meaning order.now) image.now cells) (header_of image.now) }
-    ensures code_behind_header { IfOk result (λ h. 6 * h.counts.code ≤ length image.now - 8) }
-    ensures cells_counted { IfOk result (λ h. h.counts.cells ≤ cells) }
+    ensures counted { IfOk result (λ h. (length image.now ≡ length_of_image h.counts) × (cells ≡ h.counts.cells)) }
 {
     let header = Header::read(image)?;
     header.check_version()?;
@@ -40,7 +42,7 @@ fn check<O: Order>(order: &O, image: &[u8], cells: usize) -> Result<Header, Refu
         return Err(Refusal::WrongLength);
     }
     check_tag(order, header.reader, 0)?;
-    check_entries(order, image, counts)?;
+    check_entries(order, entries_from(image, HEADER_LENGTH), 0)?;
     Ok(header)
 }
 
@@ -55,59 +57,55 @@ pub fn check_tag<O: Order>(order: &O, tag: Tag, place: u16) -> Result<(), Refusa
     }
 }
 
-// Whether every entry's tag is a label; if not, the first that is none by its place.
-fn check_entries<O: Order>(order: &O, image: &[u8], counts: Counts) -> Result<(), Refusal>
-    requires from_header { counts ≡ (header_of image.now).counts }
-    requires image_length { length image.now ≡ length_of_image counts }
-    requires within_limits { counts_fit counts ≡ true }
-    ensures { result ≡ answer (entries_refusal (O.meaning order.now) image.now) tt }
+// The entries of an image, each as its bytes, from a byte on.
+fn entries_from(image: &[u8], at: usize) -> &[[u8; ENTRY_LENGTH]]
+    requires { at ≤ length image.now }
+    ensures entries { result.now ≡ first_chunks 6 ((length image.now - at) / 6) (drop at image.now) }
+    ensures len { length result.now ≡ (length image.now - at) / 6 }
 {
-    for i in 0..counts.entries() {
-        check_tag(order, tag_at(image, i as u32), (i + 1) as u16)?;
+    image[at..].as_chunks::<ENTRY_LENGTH>().0
+}
+
+// Refused unless every entry's tag is a label; the first that is none by its place, where so many entries lie before these.
+pub fn check_entries<O: Order, E: Copy + Into<CodeEntry>>(
+    order: &O,
+    entries: &[E],
+    before: usize,
+) -> Result<(), Refusal>
+    requires { before + length entries.now < 2 ^ 16 }
+    ensures { EntriesChecked E.converts (O.meaning order.now) before entries.now result }
+{
+    if all_labelled(order, entries) {
+        return Ok(());
+    }
+    for (i, entry) in entries.iter().enumerate() {
+        let entry: CodeEntry = (*entry).into();
+        check_tag(order, entry.tag, (before + i + 1) as u16)?;
     }
     Ok(())
 }
 
-// Copies the cells of an image.
-fn copy_cells(image: &[u8], counts: Counts, cells: &mut [Cell])
-    requires from_header { counts ≡ (header_of image.now).counts }
-    requires image_length { length image.now ≡ length_of_image counts }
-    requires cells_length { length cells.old ≡ counts.cells }
-    ensures { cells.new ≡ cells_of image.now }
+// Whether every entry's tag is a label. All are tested, with no branch: that is faster than to stop at the first that is none.
+fn all_labelled<O: Order, E: Copy + Into<CodeEntry>>(order: &O, entries: &[E]) -> bool
+    ensures { AllLabelled E.converts (O.meaning order.now) entries.now result }
 {
-    let code = counts.code as usize;
-    for i in 0..cells.len() {
-        cells[i] = cell_at(image, (code + i) as u32);
+    let mut all = true;
+    for entry in entries {
+        let entry: CodeEntry = (*entry).into();
+        all &= order.is_label(entry.tag);
     }
+    all
 }
 
-// The tag of an entry that the image has.
-fn tag_at(image: &[u8], number: u32) -> Tag
-    requires { 8 + 6 * number + 6 ≤ length image.now }
-    ensures { result ≡ tag_at image.now number }
+// Copies entries into as many cells: by number, since after `iter_mut().zip(..)` a proof does not know what was written;
+// field by field, since a whole cell would be written with its padding, which is slower.
+fn copy_cells(entries: &[[u8; ENTRY_LENGTH]], cells: &mut [Cell])
+    requires { length cells.old ≡ length entries.now }
+    ensures { cells.new ≡ map (λ e. entry_cell (entry_of_bytes e)) entries.now }
 {
-    entry_at(image, number).tag
-}
-
-// An entry that the image has, as a cell.
-fn cell_at(image: &[u8], number: u32) -> Cell
-    requires { 8 + 6 * number + 6 ≤ length image.now }
-    ensures { result ≡ cell_entry_at image.now number }
-{
-    let entry = entry_at(image, number);
-    Cell {
-        word: Word(entry.bits),
-        tag: entry.tag,
-    }
-}
-
-// An entry that the image has.
-fn entry_at(image: &[u8], number: u32) -> CodeEntry
-    requires { 8 + 6 * number + 6 ≤ length image.now }
-    ensures { result ≡ code_entry_at image.now number }
-{
-    match read_code(image, number) {
-        Some(entry) => entry,
-        None => unreachable(),
+    for (i, cell) in cells.iter_mut().enumerate() {
+        let entry = CodeEntry::from(entries[i]);
+        cell.word = Word(entry.bits);
+        cell.tag = entry.tag;
     }
 }

@@ -4,11 +4,12 @@ use Rattle.labels.specs.Order.{tag}
 use Rattle.labels.specs.declared.cell.Tag.{Tag}
 use Rattle.labels.specs.declared.cell.Cell.{Cell}
 use Rattle.rules.specs.declared.query.Query.{Query}
-use Rattle.instructions.specs.Instruction.{class_number, NamesRegisters}
+use Rattle.instructions.specs.Instruction.{NamesRegisters}
+use Rattle.rules.specs.Class.{class_number}
 use Rattle.instructions.specs.Functions.{binary}
 use Rattle.instructions.specs.declared.instruction.Instruction.{Instruction}
-use Rattle.instructions.specs.declared.instruction.Class.{Class}
-use Rattle.instructions.specs.declared.instruction.Class.TheVariants.{Nop, Const, Mov, Bin, Load, Store, Jump, Bnz, Goto, Call, Ret, Out, Raise, Halt}
+use Rattle.rules.specs.declared.class.Class.{Class}
+use Rattle.rules.specs.declared.class.Class.TheVariants.{Nop, Const, Mov, Bin, Load, Store, Jump, Bnz, Goto, Call, Ret, Out, Raise, Halt}
 use Rattle.machine.specs.declared.frames.Frame.{Frame}
 use Rattle.machine.specs.declared.machine.Machine.{Machine}
 use Rattle.machine.specs.declared.fault.Fault.{Fault}
@@ -42,37 +43,19 @@ cell_at cells n = slice_index_or cells n zero_cell
 
 -- the fault of a decoded instruction
 abbrev pub fault : Class → Instruction → MachineState → Option Fault
-fault Nop i s = None
-fault Const i s = None
-fault Mov i s = None
-fault Bin i s = None
 fault Load i s = cond (nat_lt (address s.held i) (length s.cells)) None (Some NoSuchCell)
 fault Store i s = cond (nat_lt (address s.held i) (length s.cells)) None (Some NoSuchCell)
-fault Jump i s = None
-fault Bnz i s = None
-fault Goto i s = None
 fault Call i s = cond (nat_lt (length s.held.frames) 32) None (Some FramesFull)
 fault Ret i s = cond (length s.held.frames == 0) (Some NoFrame) None
 fault Out i s = cond (nat_lt s.held.outputs (length s.output_places)) None (Some OutputsFull)
-fault Raise i s = None
-fault Halt i s = None
+fault _ i s = None
 
 -- the query's tag of memory: that of the addressed cell, of the latest frame, or 0
 abbrev pub memory_tag : Class → Instruction → MachineState → Tag
-memory_tag Nop i s = tag 0
-memory_tag Const i s = tag 0
-memory_tag Mov i s = tag 0
-memory_tag Bin i s = tag 0
 memory_tag Load i s = (cell_at s.cells (address s.held i)).tag
 memory_tag Store i s = (cell_at s.cells (address s.held i)).tag
-memory_tag Jump i s = tag 0
-memory_tag Bnz i s = tag 0
-memory_tag Goto i s = tag 0
-memory_tag Call i s = tag 0
 memory_tag Ret i s = latest_tag s.held.frames
-memory_tag Out i s = tag 0
-memory_tag Raise i s = tag 0
-memory_tag Halt i s = tag 0
+memory_tag _ i s = tag 0
 
 -- the class, and the tags of the pc, the instruction, the registers d, a and b, used or not, and memory
 abbrev pub query : Instruction → Tag → Tag → Held → Query
@@ -154,17 +137,5 @@ effect Raise i next result s = holding (advance next (write_register i.d (cell (
 effect Halt i next result s = holding (on_to s.held.pc next s.held) s
 
 abbrev pub progress : Class → Progress
-progress Nop = GoesOn
-progress Const = GoesOn
-progress Mov = GoesOn
-progress Bin = GoesOn
-progress Load = GoesOn
-progress Store = GoesOn
-progress Jump = GoesOn
-progress Bnz = GoesOn
-progress Goto = GoesOn
-progress Call = GoesOn
-progress Ret = GoesOn
-progress Out = GoesOn
-progress Raise = GoesOn
 progress Halt = Halts
+progress _ = GoesOn

@@ -8,8 +8,9 @@ use crate::frames::Frame;
 use crate::machine::Machine;
 use crate::progress::Progress;
 use instructions::binary::binary;
-use instructions::instruction::{Class, Instruction};
+use instructions::instruction::Instruction;
 use labels::cell::{Cell, Tag, Word};
+use rules::class::Class;
 use rules::engine::Engine;
 
 impl Machine {
@@ -22,6 +23,8 @@ impl Machine {
         self.steps = self.steps.saturating_add(1);
     }
 
+    // On to the next instruction. The pc may be any word after a JUMP, so that no invariant bounds it: that it is below 65,536
+    // is known only where an instruction was found at it.
     fn advance(&mut self, next: Tag)
         requires { self.old.pc < 65536 }
         ensures { held self.new ≡ advance next (held self.old) }

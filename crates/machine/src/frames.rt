@@ -1,22 +1,13 @@
-// The frames of calls that have not returned, at most 32.
-ghost use Rattle.std.specs.Prelude.{◌≡◌, ◌≤◌, reverse, length, take};
-
+// The frames of calls that have not returned.
+use arrayvec::ArrayVec;
 use labels::cell::Tag;
 
-pub mod stack;
-
 // Where to return to, and the pc tag to return with.
-#[derive(Clone, Copy)]
+#[derive(Clone, Copy, Default)]
 pub struct Frame {
     pub pc: u32,
     pub tag: Tag,
 }
 
-// The first slots hold the frames, the latest last.
-#[derive(Clone, Copy)]
-pub struct Frames {
-    slots: [Frame; 32],
-    depth: usize,
-    ghost depth_fits: { depth ≤ 32 },
-    ghost depth_counts: { length (reverse (take depth slots)) ≡ depth },
-}
+// At most 32, the latest last.
+pub(crate) type Frames = ArrayVec<Frame, 32>;

@@ -3,15 +3,17 @@ ghost use Rattle.std.specs.Prelude.{◌≡◌};
 ghost use Rattle.machine.specs.Machine.{held, start, register_named};
 
 use crate::frames::Frames;
-use labels::cell::{Cell, Tag, Word};
+use labels::cell::{Cell, Tag};
 
-#[derive(Clone, Copy)]
+// Contracts see a machine by `held`. It has no impl Model: a sitting that refuses a call promises that its whole machine
+// stays, and under a model it could promise that only of what is held.
+#[derive(Clone, Drop)]
 pub struct Machine {
     pub(crate) registers: [Cell; 16],
     pub(crate) pc: u32,
     pub(crate) pc_tag: Tag,
     pub(crate) frames: Frames,
-    // How many outputs there are so far.
+    // How many outputs there are so far; they lie in memory that the caller lends.
     pub(crate) outputs: usize,
     // How many steps were granted; the count stops at its greatest value.
     pub(crate) steps: u32,
@@ -22,14 +24,10 @@ impl Machine {
     pub fn new() -> Machine
         ensures { held result ≡ start }
     {
-        let zero = Cell {
-            word: Word(0),
-            tag: Tag(0),
-        };
         Machine {
-            registers: [zero; 16],
+            registers: [Cell::default(); 16],
             pc: 0,
-            pc_tag: Tag(0),
+            pc_tag: Tag::default(),
             frames: Frames::new(),
             outputs: 0,
             steps: 0,
@@ -65,10 +63,6 @@ impl Machine {
     pub fn register(&self, number: u8) -> Option<Cell>
         ensures { result ≡ register_named (held self.now) number }
     {
-        if number < 16 {
-            Some(self.registers[number as usize])
-        } else {
-            None
-        }
+        self.registers.get(number as usize).copied()
     }
 }

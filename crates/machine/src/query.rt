@@ -6,8 +6,9 @@ ghost use Rattle.machine.specs.Effect.{state_of, fault, memory_tag, tag_unless, 
 
 use crate::fault::Fault;
 use crate::machine::Machine;
-use instructions::instruction::{Class, Instruction};
+use instructions::instruction::Instruction;
 use labels::cell::{Cell, Tag};
+use rules::class::Class;
 use rules::query::Query;
 
 impl Machine {
@@ -31,15 +32,14 @@ impl Machine {
         match instruction.class {
             Class::Load | Class::Store => {
                 let address = self.read_register(instruction.a).word.0 as usize;
-                if address < cells.len() {
-                    Ok(cells[address].tag)
-                } else {
-                    Err(Fault::NoSuchCell)
-                }
+                let cell = cells.get(address).ok_or(Fault::NoSuchCell)?;
+                Ok(cell.tag)
             }
-            Class::Call if !self.frames.has_room() => Err(Fault::FramesFull),
-            Class::Ret if self.frames.is_empty() => Err(Fault::NoFrame),
-            Class::Ret => Ok(self.frames.latest_tag()),
+            Class::Call if self.frames.is_full() => Err(Fault::FramesFull),
+            Class::Ret => {
+                let latest = self.frames.as_slice().last().ok_or(Fault::NoFrame)?;
+                Ok(latest.tag)
+            }
             Class::Out if self.outputs >= outputs.len() => Err(Fault::OutputsFull),
             _ => Ok(Tag(0)),
         }

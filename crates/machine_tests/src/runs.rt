@@ -1,17 +1,13 @@
 // Runs over an engine that always gives one verdict.
 use crate::always::Always;
+use execution::code::Code;
 use execution::outcome::End;
 use execution::run::run;
-use labels::cell::{Cell, Tag, Word};
+use labels::cell::{Cell, Tag};
 use machine::machine::Machine;
 use machine::progress::Progress;
 use rules::query::Verdict;
 use rules::violation::Violation;
-
-const NOTHING: Cell = Cell {
-    word: Word(0),
-    tag: Tag(0),
-};
 
 // What a run of one instruction over and over comes to, with no cells and no output places, and its granted steps.
 fn run_one(bits: u32, verdict: Verdict, budget: u32) -> (Result<Progress, End>, u32) {
@@ -19,45 +15,30 @@ fn run_one(bits: u32, verdict: Verdict, budget: u32) -> (Result<Progress, End>, 
     let image = [0x11, 0, 0, 1, 0, 0, 0, 0, 0, 0, b0, b1, b2, b3];
     let mut cells: [Cell; 0] = [];
     let mut outputs: [Cell; 0] = [];
-    let mut granted = 0;
     let mut engine = Always { verdict };
-    let outcome = run(
+    run(
         &mut Machine::new(),
         &mut engine,
-        &image,
-        1,
+        &Code::new(&image, 1),
         &mut cells,
         &mut outputs,
         budget,
-        &mut granted,
-    );
-    (outcome, granted)
+    )
 }
 
-fn fault_of(outcome: Result<Progress, End>) -> u8 {
+// The number of the fault that a run came to, if it came to one.
+fn fault_of(outcome: Result<Progress, End>) -> Option<u8> {
     match outcome {
-        Ok(_) => 0,
-        Err(end) => match end {
-            End::Faulted(fault) => fault.number(),
-            End::Violated(_) => 0,
-        },
+        Err(End::Faulted(fault)) => Some(fault.number()),
+        _ => None,
     }
 }
 
-fn cause_of(outcome: Result<Progress, End>) -> u8 {
+// The cause of the violation that a run came to, if it came to one.
+fn cause_of(outcome: Result<Progress, End>) -> Option<u8> {
     match outcome {
-        Ok(_) => 0,
-        Err(end) => match end {
-            End::Faulted(_) => 0,
-            End::Violated(violation) => violation.cause,
-        },
-    }
-}
-
-fn halted(outcome: Result<Progress, End>) -> bool {
-    match outcome {
-        Ok(Progress::Halts) => true,
-        _ => false,
+        Err(End::Violated(violation)) => Some(violation.cause),
+        _ => None,
     }
 }
 
@@ -77,7 +58,7 @@ fn each_fault(rt: HostRuntime) {
     ];
     for (bits, fault, steps) in table {
         let (outcome, granted) = run_one(bits, Ok((Tag(0), Tag(0))), 100);
-        assert_eq!(rt; fault_of(outcome), fault);
+        assert_eq!(rt; fault_of(outcome), Some(fault));
         assert_eq!(rt; granted, steps);
     }
 }
@@ -85,17 +66,17 @@ fn each_fault(rt: HostRuntime) {
 #[test]
 fn thirty_two_nested_calls(rt: HostRuntime) {
     let (outcome, granted) = run_one(0x9000_0000, Ok((Tag(0), Tag(0))), 32);
-    assert_eq!(rt; fault_of(outcome), 0);
+    assert_eq!(rt; fault_of(outcome), None);
     assert_eq!(rt; granted, 32);
     let (outcome, granted) = run_one(0x9000_0000, Ok((Tag(0), Tag(0))), 33);
-    assert_eq!(rt; fault_of(outcome), 4);
+    assert_eq!(rt; fault_of(outcome), Some(4));
     assert_eq!(rt; granted, 32);
 }
 
 #[test]
 fn a_violation_keeps_its_cause(rt: HostRuntime) {
     let (outcome, granted) = run_one(0xD000_0000, Err(Violation { cause: 7 }), 5);
-    assert_eq!(rt; cause_of(outcome), 7);
+    assert_eq!(rt; cause_of(outcome), Some(7));
     assert_eq!(rt; granted, 0);
 }
 
@@ -106,24 +87,21 @@ fn a_store_and_an_output(rt: HostRuntime) {
         0x11, 0, 0, 4, 0, 1, 0, 0, 0, 0, 0x11, 0, 0, 5, 0, 0, 0x50, 0x01, 0, 0, 0, 0, 0xB0, 0x10,
         0, 0, 0, 0, 0xD0, 0, 0, 0, 0, 0, 0, 0, 0, 0,
     ];
-    let mut cells = [NOTHING; 1];
-    let mut outputs = [NOTHING; 1];
-    let mut granted = 0;
+    let mut cells = [Cell::default(); 1];
+    let mut outputs = [Cell::default(); 1];
     let mut engine = Always {
         verdict: Ok((Tag(0), Tag(3))),
     };
     let mut machine = Machine::new();
-    let outcome = run(
+    let (outcome, granted) = run(
         &mut machine,
         &mut engine,
-        &image,
-        4,
+        &Code::new(&image, 4),
         &mut cells,
         &mut outputs,
         100,
-        &mut granted,
     );
-    assert!(rt; halted(outcome));
+    assert!(rt; matches!(outcome, Ok(Progress::Halts)));
     assert_eq!(rt; granted, 4);
     assert_eq!(rt; machine.steps(), 4);
     assert_eq!(rt; machine.pc(), 3);

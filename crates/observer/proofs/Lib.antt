@@ -2,7 +2,7 @@
 pub mod Unseen
 pub mod FlowGrants
 pub mod Views
-pub mod Asked
+pub mod RuleEffects
 pub mod UnseenSteps
 pub mod SeenSteps
 pub mod ObservedSteps

@@ -11,12 +11,12 @@ use Rattle.machine.specs.declared.progress.Progress.TheVariants.{GoesOn, Halts}
 use Rattle.machine.specs.Effect.{MachineState}
 use Rattle.execution.specs.Step.{Outcome, Answers, StepsTo}
 use Rattle.execution.specs.Run.{RunsTo, budget_used, halts, ends, goes_on}
-use Rattle.execution.proofs.RunsByBook.{steps_by_book}
+use Rattle.execution.proofs.RunsByBook.{Faithful, steps_by_book}
 use Rattle.observer.specs.Observer.{Downward}
 use Rattle.observer.specs.View.{View, view}
 use Rattle.observer.specs.ObserverMachine.{next_view, view_after, Reaches}
 use Rattle.observer.specs.ObserverLaws.{has_halted}
-use Rattle.observer.proofs.ObservedSteps.{Faithful, flow_granted, unseen_step, seen_step, ended_step}
+use Rattle.observer.proofs.ObservedSteps.{flow_granted, unseen_step, seen_step, ended_step}
 
 module _ (m : Meaning) (sees : Tag → Bool) (code : List CodeEntry) where
   pub reaches_itself : {v w : View} → w ≡ v → Reaches m sees code v w

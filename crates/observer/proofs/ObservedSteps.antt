@@ -1,9 +1,9 @@
 -- What a step over an engine that means the flow rules does to the view.
-use Rattle.std.proofs.Common.{◌≡◌, Bool, true, false, List, Some, None, Ok, Err, sym, refl, ap, ◌∙◌, subst}
+use Rattle.std.proofs.Common.{arith, ◌≡◌, Bool, true, false, List, Some, None, Ok, Err, sym, refl, ap, ◌∙◌, subst}
 use Rattle.labels.specs.Order.{Meaning, Laws}
 use Rattle.labels.specs.declared.cell.Tag.{Tag}
 use Rattle.image.specs.declared.entry.CodeEntry.{CodeEntry}
-use Rattle.instructions.specs.Instruction.{class_number}
+use Rattle.rules.specs.Class.{class_number}
 use Rattle.instructions.specs.declared.instruction.Instruction.{Instruction}
 use Rattle.rules.specs.Book.{Verdict, Book}
 use Rattle.rules.specs.Rules.{rule}
@@ -14,14 +14,16 @@ use Rattle.machine.specs.declared.progress.Progress.{Progress}
 use Rattle.execution.specs.declared.outcome.End.{End}
 use Rattle.machine.specs.Effect.{MachineState, fault, effect, progress}
 use Rattle.execution.specs.Step.{Question, Answers, Settles, StepsTo, question, entry_at, instruction_of, outcome, after}
-use Rattle.execution.proofs.Steps.{never, ended_unchanged}
+use Rattle.execution.proofs.Asked.{Asked, asked}
+use Rattle.execution.proofs.Steps.{ended_unchanged}
+use Rattle.execution.proofs.RunsByBook.{Faithful}
 use Rattle.observer.specs.Observer.{Downward}
 use Rattle.observer.specs.View.{Place, view, seen_frames}
 use Rattle.observer.specs.ObserverMachine.{act_decoded, act_entry, act_at, next_view}
 use Rattle.observer.specs.ObserverLaws.{has_halted}
 use Rattle.observer.proofs.FlowGrants.{GrantedByRule, granted_by_rule}
 use Rattle.observer.proofs.Views.{seen_place}
-use Rattle.observer.proofs.Asked.{Asked, asked, query_by_class, effect_by_rule}
+use Rattle.observer.proofs.RuleEffects.{query_by_class, effect_by_rule}
 use Rattle.observer.proofs.UnseenSteps.{unseen_effect}
 use Rattle.observer.proofs.SeenSteps.{seen_effect}
 
@@ -40,7 +42,7 @@ pub record FlowGranted (m : Meaning) (code : List CodeEntry) (s : MachineState) 
 module _ (m : Meaning) (code : List CodeEntry) (s : MachineState) (p : Progress) (s' : MachineState) where
   by_grant : (i : Instruction) (q : Query) (tags : Tag × Tag) → Asked code s i q → GrantedByRule m q tags → p ≡ progress i.class → s' ≡ effect i.class i tags.0 tags.1 s → FlowGranted m code s p s'
   by_grant i q tags a g on c =
-      let k = subst (λ (x : Query). GrantedByRule m x tags) a.query g in
+      let k = subst (λ (x : Query). GrantedByRule m x tags) a.about g in
       record {
         entry = a.entry;
         instruction = i;
@@ -55,16 +57,12 @@ module _ (m : Meaning) (code : List CodeEntry) (s : MachineState) (p : Progress)
 
   by_verdict : (i : Instruction) (q : Query) (v : Verdict) → Asked code s i q → v ≡ flow m q → Ok p ≡ outcome i v → s' ≡ after i v s → FlowGranted m code s p s'
   by_verdict i q (Ok tags) a by r c = by_grant i q tags a (granted_by_rule m q tags by) (cc) c
-  by_verdict i q (Err x) a by r c = never p _ r
-
--- an engine that means a book answers by it, and means it afterwards
-abbrev pub Faithful : {E : Type 0} → Answers E → (E → Book → Type 0) → Type 0
-Faithful {E} answers means = (before : E) (q : Query) (v : Verdict) (after : E) (b : Book) → answers before q v after → means before b → (v ≡ b q) × means after b
+  by_verdict i q (Err x) a by r c = grind arith
 
 module _ {E : Type 0} (answers : Answers E) (means : E → Book → Type 0) (faithful : Faithful answers means) (m : Meaning) (code : List CodeEntry) (s s' : MachineState) (e e' : E) where
   by_question : (x : Question) (p : Progress) → question code s ≡ x → means e (flow m) → Settles answers x s e (Ok p) s' e' → FlowGranted m code s p s'
   by_question (Ok (i, q)) p asks means_flow (v, a, r, c) = by_verdict m code s p s' i q v (asked code s i q asks) (faithful e q v e' (flow m) a means_flow).0 r c
-  by_question (Err f) p asks means_flow (r, c, d) = never p _ r
+  by_question (Err f) p asks means_flow (r, c, d) = grind arith
 
   pub flow_granted : (p : Progress) → means e (flow m) → StepsTo answers code s e (Ok p) s' e' → FlowGranted m code s p s'
   flow_granted p means_flow h = by_question (question code s) p refl means_flow h

@@ -4,7 +4,7 @@ use Rattle.rules.specs.Book.{Book}
 use Rattle.execution.specs.Step.{Answers}
 use Rattle.observer.specs.ObserverLaws.{ObserverLaws}
 use Rattle.observer.proofs.Unseen.{reader_downward}
-use Rattle.observer.proofs.ObservedSteps.{Faithful}
+use Rattle.execution.proofs.RunsByBook.{Faithful}
 use Rattle.observer.proofs.ObservedRuns.{run_reaches}
 use Rattle.observer.proofs.ReachedViews.{outputs_agree, halted_has_all_outputs, halted_views_are_equal}
 use Rattle.observer.proofs.Starts.{alike_starts_look_equal}

@@ -5,8 +5,8 @@ use Rattle.labels.specs.declared.cell.Tag.{Tag}
 use Rattle.labels.specs.declared.cell.Cell.{Cell}
 use Rattle.image.specs.declared.entry.CodeEntry.{CodeEntry}
 use Rattle.instructions.specs.declared.instruction.Instruction.{Instruction}
-use Rattle.instructions.specs.declared.instruction.Class.{Class}
-use Rattle.instructions.specs.declared.instruction.Class.TheVariants.{Nop, Const, Mov, Bin, Load, Store, Jump, Bnz, Goto, Call, Ret, Out, Raise, Halt}
+use Rattle.rules.specs.declared.class.Class.{Class}
+use Rattle.rules.specs.declared.class.Class.TheVariants.{Out}
 use Rattle.machine.specs.declared.frames.Frame.{Frame}
 use Rattle.execution.specs.Step.{entry_at, instruction_of}
 use Rattle.observer.specs.View.{View, Place, at_pc, nowhere}
@@ -22,20 +22,8 @@ first_of_first xs ys zs (a, p) (b, q) = (a ++ b, sym (append_assoc xs a b) ∙ a
 module _ (m : Meaning) (sees : Tag → Bool) where
   -- outputs are only added, and behind the others
   act_adds : (c : Class) (i : Instruction) (I : Tag) (pc : ℕ) (P : Tag) (fs : List Frame) (v : View) → FirstOf v.outputs (act m sees c i I pc P fs v).outputs
-  act_adds Nop i I pc P fs v = all_of v.outputs
-  act_adds Const i I pc P fs v = all_of v.outputs
-  act_adds Mov i I pc P fs v = all_of v.outputs
-  act_adds Bin i I pc P fs v = all_of v.outputs
-  act_adds Load i I pc P fs v = all_of v.outputs
-  act_adds Store i I pc P fs v = all_of v.outputs
-  act_adds Jump i I pc P fs v = all_of v.outputs
-  act_adds Bnz i I pc P fs v = all_of v.outputs
-  act_adds Goto i I pc P fs v = all_of v.outputs
-  act_adds Call i I pc P fs v = all_of v.outputs
-  act_adds Ret i I pc P fs v = all_of v.outputs
   act_adds Out i I pc P fs v = (_, refl)
-  act_adds Raise i I pc P fs v = all_of v.outputs
-  act_adds Halt i I pc P fs v = all_of v.outputs
+  act_adds _ i I pc P fs v = all_of v.outputs
 
   decoded_adds : (x : Option Instruction) (I : Tag) (pc : ℕ) (P : Tag) (fs : List Frame) (v : View) → FirstOf v.outputs (act_decoded m sees x I pc P fs v).outputs
   decoded_adds None I pc P fs v = all_of v.outputs

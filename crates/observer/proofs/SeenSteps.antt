@@ -5,11 +5,11 @@ use Rattle.std.proofs.lemmas.List.Elements.{filter-append}
 use Rattle.labels.specs.Order.{Meaning, Laws}
 use Rattle.labels.specs.declared.cell.Tag.{Tag}
 use Rattle.labels.specs.declared.cell.Cell.{Cell}
-use Rattle.instructions.specs.Instruction.{class_number}
+use Rattle.rules.specs.Class.{class_number}
 use Rattle.instructions.specs.Functions.{binary}
 use Rattle.instructions.specs.declared.instruction.Instruction.{Instruction}
-use Rattle.instructions.specs.declared.instruction.Class.{Class}
-use Rattle.instructions.specs.declared.instruction.Class.TheVariants.{Nop, Const, Mov, Bin, Load, Store, Jump, Bnz, Goto, Call, Ret, Out, Raise, Halt}
+use Rattle.rules.specs.declared.class.Class.{Class}
+use Rattle.rules.specs.declared.class.Class.TheVariants.{Nop, Const, Mov, Bin, Load, Store, Jump, Bnz, Goto, Call, Ret, Out, Raise, Halt}
 use Rattle.rules.specs.Rules.{P, I, D, A, B, M, rule}
 use Rattle.rules.specs.Flow.{joined, holds}
 use Rattle.rules.proofs.Judged.{Used}
@@ -23,7 +23,7 @@ use Rattle.observer.specs.ObserverMachine.{if_seen, seen_at, move_to, with_regis
 use Rattle.observer.specs.ObserverLaws.{has_halted}
 use Rattle.observer.proofs.Unseen.{unseen_above, this, later, unseen_join}
 use Rattle.observer.proofs.Views.{equal_views, one_more_output, blank, seen_place, unseen_place, return_place, tell_at}
-use Rattle.observer.proofs.Asked.{query_by_class, effect_by_rule}
+use Rattle.observer.proofs.RuleEffects.{query_by_class, effect_by_rule}
 
 module _ (sees : Tag → Bool) (s : MachineState) where
   abbrev registers_seen : List (Option Cell)

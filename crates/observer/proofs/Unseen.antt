@@ -41,7 +41,7 @@ passed false t h u = u
 
 module _ (m : Meaning) (laws : Laws m) (sees : Tag → Bool) (down : Downward m sees) where
   pub unseen_above : (a b : Tag) → Flows m a b → sees a ≡ false → sees b ≡ false
-  unseen_above a b f h = ⊎_elim (λ (seen : sees b ≡ true). absurd (true≢false (sym (down a b f seen) ∙ h))) (λ unseen. unseen) (cases_Bool (sees b))
+  unseen_above a b f h = ⊎_elim (λ seen. absurd (true≢false (sym (down a b f seen) ∙ h))) (λ unseen. unseen) (cases_Bool (sees b))
 
   module _ (q : Query) (mask : ℕ) (u : Used m.label mask q) where
     used_label : (s : Input) → used_by mask s ≡ true → Label m (tag_of s q)

@@ -4,10 +4,10 @@ use lib.Seq.{map-set_same}
 use Rattle.labels.specs.Order.{Meaning, Laws}
 use Rattle.labels.specs.declared.cell.Word.{Word}
 use Rattle.labels.specs.declared.cell.Tag.{Tag}
-use Rattle.instructions.specs.Instruction.{class_number}
+use Rattle.rules.specs.Class.{class_number}
 use Rattle.instructions.specs.declared.instruction.Instruction.{Instruction}
-use Rattle.instructions.specs.declared.instruction.Class.{Class}
-use Rattle.instructions.specs.declared.instruction.Class.TheVariants.{Nop, Const, Mov, Bin, Load, Store, Jump, Bnz, Goto, Call, Ret, Out, Raise, Halt}
+use Rattle.rules.specs.declared.class.Class.{Class}
+use Rattle.rules.specs.declared.class.Class.TheVariants.{Nop, Const, Mov, Bin, Load, Store, Jump, Bnz, Goto, Call, Ret, Out, Raise, Halt}
 use Rattle.rules.specs.Rules.{P, I, D, A, B, M, rule}
 use Rattle.rules.specs.Flow.{joined, holds}
 use Rattle.rules.proofs.Judged.{Used}
@@ -20,7 +20,7 @@ use Rattle.observer.specs.View.{view, place_of, seen_frames}
 use Rattle.observer.specs.ObserverLaws.{has_halted}
 use Rattle.observer.proofs.Unseen.{unseen_above, this, later, unseen_join}
 use Rattle.observer.proofs.Views.{equal_views, one_more_output, blank, not_added, unseen_place, return_place}
-use Rattle.observer.proofs.Asked.{query_by_class, effect_by_rule}
+use Rattle.observer.proofs.RuleEffects.{query_by_class, effect_by_rule}
 
 module _ (sees : Tag → Bool) (s : MachineState) (unseen : sees s.held.pc_tag ≡ false) where
   -- from one unseen pc tag to another the place is where the machine will resume

@@ -5,7 +5,7 @@ use Rattle.std.proofs.lemmas.List.Elements.{filter-append}
 use Rattle.labels.specs.declared.cell.Tag.{Tag}
 use Rattle.labels.specs.declared.cell.Cell.{Cell}
 use Rattle.instructions.specs.declared.instruction.Instruction.{Instruction}
-use Rattle.instructions.specs.declared.instruction.Class.TheVariants.{Out}
+use Rattle.rules.specs.declared.class.Class.TheVariants.{Out}
 use Rattle.machine.specs.declared.frames.Frame.{Frame}
 use Rattle.machine.specs.Machine.{zero_cell}
 use Rattle.machine.specs.Effect.{MachineState, fault}
@@ -22,17 +22,16 @@ one_more_output s c i f = rw add-one (take-suc-set s.output_places s.held.output
 
 module _ (sees : Tag → Bool) where
   pub blank : (c : Cell) → sees c.tag ≡ false → shown sees c ≡ None
-  blank c h = ap (λ (b : Bool). cond b (Some c) None) h
+  blank c h = rw h refl
 
   pub not_added : (cs : List Cell) (c : Cell) → sees c.tag ≡ false → seen_cells sees (cs ++ (c ∷ [])) ≡ seen_cells sees cs
-  not_added cs c h =
-      filter-append (sees_cell sees) cs (c ∷ []) ∙ ap (λ (b : Bool). seen_cells sees cs ++ cond b (c ∷ []) []) h ∙ append-nil (seen_cells sees cs)
+  not_added cs c h = filter-append (sees_cell sees) cs (c ∷ []) ∙ rw h (append-nil (seen_cells sees cs))
 
   pub seen_place : (pc : ℕ) (t : Tag) (fs : List Frame) → sees t ≡ true → place_of sees pc t fs ≡ at_pc pc t fs
-  seen_place pc t fs h = ap (λ (b : Bool). cond b (at_pc pc t fs) (resumption fs)) h
+  seen_place pc t fs h = rw h refl
 
   pub unseen_place : (pc : ℕ) (t : Tag) (fs : List Frame) → sees t ≡ false → place_of sees pc t fs ≡ resumption fs
-  unseen_place pc t fs h = ap (λ (b : Bool). cond b (at_pc pc t fs) (resumption fs)) h
+  unseen_place pc t fs h = rw h refl
 
   -- a return goes where the machine would resume, whether the frame that it takes is seen or not
   pub return_place : (f : Frame) (fs : List Frame) → place_of sees f.pc f.tag (seen_frames sees fs) ≡ resumption (seen_frames sees (f ∷ fs))

@@ -4,6 +4,7 @@ use Rattle.labels.specs.Order.{Meaning, Flows}
 use Rattle.labels.specs.declared.cell.Tag.{Tag}
 use Rattle.labels.specs.declared.cell.Cell.{Cell}
 use Rattle.machine.specs.Effect.{cell_at}
+use Rattle.observer.specs.declared.reader.Reader.{Reader}
 
 -- An observer is a set of tags, those that he sees. It is closed downward: what flows to a seen tag is seen.
 -- A join of two seen tags need not be seen.
@@ -13,6 +14,10 @@ Downward m sees = (a b : Tag) → Flows m a b → sees b ≡ true → sees a ≡
 -- A reader is the observer who sees what flows to his label.
 abbrev pub reader : Meaning → Tag → Tag → Bool
 reader m label t = m.flows t label
+
+-- the observer that a reader of an order is
+abbrev pub observer_of : {O : Type 0} → (O → Meaning) → Reader O → Tag → Bool
+observer_of meaning r = reader (meaning r.order.now) r.label
 
 -- A cell whose tag is seen is seen whole, any other is blank: neither its word nor its tag is seen.
 abbrev pub shown : (Tag → Bool) → Cell → Option Cell

@@ -7,8 +7,8 @@ use Rattle.labels.specs.declared.cell.Cell.{Cell}
 use Rattle.image.specs.declared.entry.CodeEntry.{CodeEntry}
 use Rattle.instructions.specs.Functions.{binary}
 use Rattle.instructions.specs.declared.instruction.Instruction.{Instruction}
-use Rattle.instructions.specs.declared.instruction.Class.{Class}
-use Rattle.instructions.specs.declared.instruction.Class.TheVariants.{Nop, Const, Mov, Bin, Load, Store, Jump, Bnz, Goto, Call, Ret, Out, Raise, Halt}
+use Rattle.rules.specs.declared.class.Class.{Class}
+use Rattle.rules.specs.declared.class.Class.TheVariants.{Nop, Const, Mov, Bin, Load, Store, Jump, Bnz, Goto, Call, Ret, Out, Raise, Halt}
 use Rattle.machine.specs.declared.frames.Frame.{Frame}
 use Rattle.machine.specs.Machine.{word, cell, zero_cell}
 use Rattle.machine.specs.Effect.{frame}

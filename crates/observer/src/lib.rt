@@ -3,4 +3,4 @@
 
 pub mod laws;
 pub mod reader;
-pub mod visible;
+mod visible;

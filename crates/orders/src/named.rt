@@ -8,6 +8,7 @@ use crate::barred_sets::BarredSets;
 use crate::clearances::Clearances;
 use crate::two_point::TwoPoint;
 use labels::name::OrderName;
+use labels::order::Order;
 use labels::refusal::Refusal;
 
 // An order of some kind, to be matched: it has no one kind itself, so it is no order.
@@ -18,15 +19,17 @@ pub enum NamedOrder {
     Clearances(Clearances),
 }
 
-impl NamedOrder {
-    // Refused for an unknown kind and for parameters that the kind does not take.
-    pub fn new(name: OrderName) -> Result<NamedOrder, Refusal>
-        ensures { made_as meaning_of result ≡ order_named name }
-    {
+// Refused for an unknown kind and for parameters that the kind does not take.
+impl TryFrom<OrderName> for NamedOrder {
+    type Error = Refusal;
+
+    ghost try_from_gives = { λ name result. made_as meaning_of result ≡ order_named name };
+
+    fn try_from(name: OrderName) -> Result<NamedOrder, Refusal> {
         match name.kind {
-            1 => Ok(NamedOrder::TwoPoint(TwoPoint::new(name.parameters)?)),
-            2 => Ok(NamedOrder::BarredSets(BarredSets::new(name.parameters)?)),
-            3 => Ok(NamedOrder::Clearances(Clearances::new(name.parameters)?)),
+            TwoPoint::KIND => TwoPoint::new(name.parameters).map(NamedOrder::TwoPoint),
+            BarredSets::KIND => BarredSets::new(name.parameters).map(NamedOrder::BarredSets),
+            Clearances::KIND => Clearances::new(name.parameters).map(NamedOrder::Clearances),
             _ => Err(Refusal::WrongOrder),
         }
     }

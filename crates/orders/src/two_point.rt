@@ -6,22 +6,8 @@ ghost use Rattle.orders.specs.LawfulMakes.{two_point_lawful};
 
 use labels::cell::Tag;
 use labels::name::Parameters;
-use labels::order::{KindNumber, Order};
+use labels::order::Order;
 use labels::refusal::Refusal;
-
-// The number of the kind.
-const TWO_POINT: u8 = 1;
-
-#[derive(Clone, Copy)]
-pub struct TwoPointKind;
-
-impl KindNumber for TwoPointKind {
-    ghost number = { 1 };
-
-    fn value(&self) -> u8 {
-        TWO_POINT
-    }
-}
 
 // How many labels there are.
 const LABELS: u16 = 2;
@@ -43,13 +29,11 @@ impl TwoPoint {
 }
 
 impl Order for TwoPoint {
-    type Kind = TwoPointKind;
+    const KIND: u8 = 1;
 
-    const KIND: TwoPointKind = TwoPointKind;
+    ghost KIND = { 1 };
 
     ghost meaning = { λ _. two_point };
-
-    ghost lawful = { λ _. two_point_lawful };
 
     fn parameters(&self) -> Parameters {
         Parameters { p: 0, q: 0 }
@@ -63,15 +47,13 @@ impl Order for TwoPoint {
         tag.0 < LABELS
     }
 
-    fn flows(&self, from: Tag, to: Tag) -> bool {
-        self.is_label(from) && self.is_label(to) && from.0 <= to.0
+    fn labels_flow(&self, from: Tag, to: Tag) -> bool {
+        from.0 <= to.0
     }
 
-    fn join(&self, a: Tag, b: Tag) -> Tag {
-        if self.is_label(a) && self.is_label(b) {
-            Tag(a.0.max(b.0))
-        } else {
-            Tag(0)
-        }
+    fn join_labels(&self, a: Tag, b: Tag) -> Tag {
+        Tag(a.0.max(b.0))
     }
+
+    ghost lawful = { λ _. two_point_lawful };
 }

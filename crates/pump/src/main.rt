@@ -4,38 +4,26 @@
 
 use anyhow::anyhow;
 use closing::close::{RECORD_LENGTH, close};
-use closing::record::{ClosingRecord, RefusedFiling};
+use closing::record::ClosingRecord;
 use image::header::longest_image;
 use screen::screen::Screen;
 use sitting::sitting::Sitting;
 use std::io::Read;
 use std::{env, fs};
 
-// Files a record into the file of a path.
-fn file_record(rt: &HostRuntime, record: ClosingRecord, path: &str) -> anyhow::Result<()> {
+// Files a record to a path, or strikes it out where there is none.
+fn settle(rt: &HostRuntime, record: ClosingRecord, path: Option<String>) -> anyhow::Result<()> {
+    let Some(path) = path else {
+        record.strike();
+        return Ok(());
+    };
     let mut slot = [0; RECORD_LENGTH];
-    match record.file(&mut slot) {
-        Ok(()) => {}
-        Err(refused) => {
-            let RefusedFiling { refusal: _, owed } = refused;
-            owed.strike();
-            return Err(anyhow!("the record could not be filed"));
-        }
-    }
-    fs::write(rt, path, &slot)?;
+    record.file(&mut slot).map_err(|refused| {
+        refused.strike();
+        anyhow!("the record could not be filed")
+    })?;
+    fs::write(rt, path.as_str(), &slot)?;
     Ok(())
-}
-
-// Files the record of a sitting to a path, or strikes it out where there is none.
-fn settle(rt: &HostRuntime, sitting: Sitting, path: Option<String>) -> anyhow::Result<()> {
-    let record = close(sitting);
-    match path {
-        Some(path) => file_record(rt, record, path.as_str()),
-        None => {
-            record.strike();
-            Ok(())
-        }
-    }
 }
 
 fn run(rt: &HostRuntime) -> anyhow::Result<()> {
@@ -47,7 +35,7 @@ fn run(rt: &HostRuntime) -> anyhow::Result<()> {
     let mut sitting = Sitting::new();
     let screen = Screen::of_sitting(rt.alloc(), &mut sitting, image.as_slice())?;
     println!(rt; "{screen}")?;
-    settle(rt, sitting, path)
+    settle(rt, close(sitting), path)
 }
 
 fn main(rt: HostRuntime) -> anyhow::Result<()> {

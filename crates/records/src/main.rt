@@ -3,12 +3,12 @@
 
 use closing::close::{RECORD_LENGTH, close};
 use closing::record::{ClosingRecord, RefusedFiling};
-use labels::cell::{Cell, Tag, Word};
-use labels::name::Parameters;
+use labels::cell::Cell;
 use labels::refusal::Refusal;
 use orders::two_point::TwoPoint;
 use rules::flow_engine::FlowEngine;
 use sitting::sitting::Sitting;
+use std::fmt;
 
 // Two-point images of one cell, with a secret in it.
 // CONST 1, 0; LOAD 2, 1; BNZ 2, 4; NOP; HALT: halts at pc 4 under the pc tag 1.
@@ -23,33 +23,18 @@ const FAULTS: &[u8; 32] =
 const VIOLATES: &[u8; 32] =
     b"\x11\x00\x00\x03\x00\x01\x00\x00\x00\x00\x42\x10\x00\x00\x00\x00\x60\x20\x00\x00\x00\x00\x13\x00\x00\x00\x00\x01\x00\x00\x00\x02";
 
-fn zero() -> Cell {
-    Cell {
-        word: Word(0),
-        tag: Tag(0),
-    }
-}
-
 // Files a record, and strikes it out where the slot has another length.
 fn file(record: ClosingRecord, slot: &mut [u8]) -> Result<(), Refusal> {
-    match record.file(slot) {
-        Ok(()) => Ok(()),
-        Err(refused) => {
-            let RefusedFiling { refusal, owed } = refused;
-            owed.strike();
-            Err(refusal)
-        }
-    }
+    record.file(slot).map_err(RefusedFiling::strike)
 }
 
 // The record of a sitting that was opened with an image and run with a budget.
 fn record_of(image: &[u8], budget: u32) -> Result<[u8; RECORD_LENGTH], Refusal> {
-    let order = TwoPoint::new(Parameters { p: 0, q: 0 })?;
-    let mut engine = FlowEngine::new(order);
-    let mut cells = [zero()];
-    let mut outputs = [zero()];
+    let mut engine = FlowEngine::new(TwoPoint);
+    let mut cells = [Cell::default()];
+    let mut outputs = [Cell::default()];
     let mut sitting = Sitting::new();
-    sitting.open(&order, image, &mut cells, &outputs)?;
+    sitting.open(&TwoPoint, image, &mut cells, &outputs)?;
     sitting.run(&mut engine, budget, image, &mut cells, &mut outputs)?;
     let record = close(sitting);
     let mut slot = [0; RECORD_LENGTH];
@@ -57,27 +42,24 @@ fn record_of(image: &[u8], budget: u32) -> Result<[u8; RECORD_LENGTH], Refusal> 
     Ok(slot)
 }
 
-fn print_bytes(rt: &HostRuntime, name: &str, bytes: &[u8]) -> anyhow::Result<()> {
-    print!(rt; "{name}:")?;
-    for byte in bytes {
-        print!(rt; " {byte:02x}")?;
+// Bytes as pairs of hexadecimal digits, each behind a space.
+#[derive(Clone, Copy)]
+struct Pairs<'a>(&'a [u8]);
+
+impl fmt::Display for Pairs<'_> {
+    fn fmt<W: fmt::Write>(&self, f: &mut fmt::Formatter<W>) -> fmt::Result {
+        for byte in self.0 {
+            write!(f, " {byte:02x}")?;
+        }
+        Ok(())
     }
-    println!(rt)?;
-    Ok(())
 }
 
 fn print_records(rt: &HostRuntime, name: &str, image: &[u8], budget: u32) -> anyhow::Result<()> {
-    match record_of(image, budget) {
-        Ok(slot) => {
-            let copy = slot;
-            print_bytes(rt, name, &slot)?;
-            print_bytes(rt, "copy", &copy)?;
-        }
-        Err(refusal) => {
-            let number = refusal.number();
-            println!(rt; "{name}: refused {number}")?;
-        }
-    }
+    let slot = record_of(image, budget)?;
+    let copy = slot;
+    println!(rt; "{name}:{}", Pairs(&slot))?;
+    println!(rt; "copy:{}", Pairs(&copy))?;
     Ok(())
 }
 
@@ -85,12 +67,10 @@ fn print_records(rt: &HostRuntime, name: &str, image: &[u8], budget: u32) -> any
 fn print_filing(rt: &HostRuntime, slot: &mut [u8]) -> anyhow::Result<()> {
     match file(close(Sitting::new()), slot) {
         Ok(()) => println!(rt; "filed")?,
-        Err(refusal) => {
-            let number = refusal.number();
-            println!(rt; "refused {number}")?;
-        }
+        Err(refusal) => println!(rt; "refused {refusal}")?,
     }
-    print_bytes(rt, "slot", slot)
+    println!(rt; "slot:{}", Pairs(slot))?;
+    Ok(())
 }
 
 fn run(rt: &HostRuntime) -> anyhow::Result<()> {

@@ -1,11 +1,15 @@
 -- The flow rules over the meaning of an order.
-use Rattle.std.specs.Prelude.{ℕ, Bool, true, cond, ◌&&◌, ◌||◌, T, List, [], ◌∷◌, Ok, Err, Result, ◌==◌, bit_and, nat_le}
+use Rattle.std.specs.Prelude.{◌≡◌, ℕ, Bool, true, cond, not, ◌&&◌, ◌||◌, T, List, [], ◌∷◌, Ok, Err, Result, ◌==◌, bit_and, nat_le}
 use Rattle.labels.specs.Order.{Meaning, tag}
 use Rattle.labels.specs.declared.cell.Tag.{Tag}
 use Rattle.rules.specs.Book.{Verdict, Book}
 use Rattle.rules.specs.Rules.{Input, tag_of, Condition, always, flows_to, Rule, rule, ruled}
 use Rattle.rules.specs.declared.query.Query.{Query}
 use Rattle.rules.specs.declared.violation.Violation.{Violation}
+
+-- whether a mask has the weight of a tag
+abbrev pub uses : ℕ → ℕ → Bool
+uses mask weight = not (bit_and mask weight == 0)
 
 -- a tag of this weight is not used, or passes a test
 abbrev pub unused_or : (Tag → Bool) → ℕ → ℕ → Tag → Bool
@@ -16,6 +20,10 @@ abbrev pub each_used : (Tag → Bool) → ℕ → Query → Bool
 each_used test mask q =
     unused_or test mask 32 q.pc && unused_or test mask 16 q.instruction && unused_or test mask 8 q.d
     && unused_or test mask 4 q.a && unused_or test mask 2 q.b && unused_or test mask 1 q.memory
+
+-- what a call may answer is what a test says
+abbrev pub Computes : (Tag → Bool → Type 0) → (Tag → Bool) → Type 0
+Computes answers test = (t : Tag) (r : Bool) → answers t r → r ≡ test t
 
 -- the join of a tag and some tags of a query, from the left
 abbrev pub join_all : Meaning → Query → Tag → List Input → Tag

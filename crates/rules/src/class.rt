@@ -1,28 +1,79 @@
-// The class of each instruction.
-pub const NOP: u8 = 0;
+// The classes of instructions, each with its number.
+ghost use Rattle.std.specs.Prelude.{◌≡◌};
+ghost use Rattle.rules.specs.Class.{class_number, HasNumber, AllInTurn};
 
-pub const CONST: u8 = 1;
+// The place of a class in this list is its number, which is also the op that encodes it.
+#[derive(Clone, Copy, PartialEq, Eq)]
+pub enum Class {
+    Nop,
+    Const,
+    Mov,
+    Bin,
+    Load,
+    Store,
+    Jump,
+    Bnz,
+    Goto,
+    Call,
+    Ret,
+    Out,
+    Raise,
+    Halt,
+}
 
-pub const MOV: u8 = 2;
+// A number that no class has.
+#[derive(Clone, Copy, PartialEq, Eq)]
+pub struct UnknownClass(pub u8);
 
-pub const BIN: u8 = 3;
+impl Class {
+    pub const ALL: [Class; 14] = [
+        Class::Nop,
+        Class::Const,
+        Class::Mov,
+        Class::Bin,
+        Class::Load,
+        Class::Store,
+        Class::Jump,
+        Class::Bnz,
+        Class::Goto,
+        Class::Call,
+        Class::Ret,
+        Class::Out,
+        Class::Raise,
+        Class::Halt,
+    ];
 
-pub const LOAD: u8 = 4;
+    // The list of all classes is promised here, since a constant has no contract.
+    pub fn number(self) -> u8
+        ensures value { result ≡ class_number self }
+        ensures all_in_turn { AllInTurn }
+    {
+        self as u8
+    }
+}
 
-pub const STORE: u8 = 5;
+impl TryFrom<u8> for Class {
+    type Error = UnknownClass;
 
-pub const JUMP: u8 = 6;
+    ghost try_from_gives = { HasNumber };
 
-pub const BNZ: u8 = 7;
-
-pub const GOTO: u8 = 8;
-
-pub const CALL: u8 = 9;
-
-pub const RET: u8 = 10;
-
-pub const OUT: u8 = 11;
-
-pub const RAISE: u8 = 12;
-
-pub const HALT: u8 = 13;
+    fn try_from(number: u8) -> Result<Self, UnknownClass> {
+        match number {
+            0 => Ok(Class::Nop),
+            1 => Ok(Class::Const),
+            2 => Ok(Class::Mov),
+            3 => Ok(Class::Bin),
+            4 => Ok(Class::Load),
+            5 => Ok(Class::Store),
+            6 => Ok(Class::Jump),
+            7 => Ok(Class::Bnz),
+            8 => Ok(Class::Goto),
+            9 => Ok(Class::Call),
+            10 => Ok(Class::Ret),
+            11 => Ok(Class::Out),
+            12 => Ok(Class::Raise),
+            13 => Ok(Class::Halt),
+            _ => Err(UnknownClass(number)),
+        }
+    }
+}

@@ -26,8 +26,7 @@ impl<O: Order> FlowEngine<O> {
     pub fn into_order(self) -> O
         ensures { result ≡ self.order }
     {
-        let FlowEngine { order } = self;
-        order
+        self.order
     }
 }
 

@@ -5,6 +5,7 @@ pub mod class;
 pub mod engine;
 pub mod flow;
 pub mod flow_engine;
+pub mod flow_violation;
 pub mod mask;
 pub mod query;
 pub mod violation;

@@ -17,7 +17,6 @@ use Rattle.sitting.specs.Run.{RunDone, sitting_run_by}
 use Rattle.viewing.specs.Page.{reader_of, visible_outputs, has_end_mark, page_refusal}
 use Rattle.screen.specs.declared.session.Report.{Report}
 use Rattle.screen.specs.declared.screen.Screen.{Screen}
-use Rattle.screen.specs.declared.screen.Screen.TheVariants.{Refused, Ran}
 
 -- What is shown of a sitting, but for the counts of its cache: its page, its state, pc and steps.
 pub record Shown : Type 0 where
@@ -109,5 +108,4 @@ report_with (Err refusal) page = Err refusal
 
 -- what stands on a screen, but for the counts
 abbrev pub shown_on : Screen → Result Shown Refusal
-shown_on (Refused refusal) = Err refusal
-shown_on (Ran page r) = Ok (report_shown r (vec_items page))
+shown_on s = report_with s.report (vec_items s.page)

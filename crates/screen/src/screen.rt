@@ -2,11 +2,11 @@
 ghost use Rattle.std.specs.Prelude.{◌≡◌, replicate, IfOk};
 ghost use Rattle.machine.specs.Machine.{zero_cell};
 ghost use Rattle.sitting.specs.Sitting.{standing};
-ghost use Rattle.screen.specs.Screen.{report_with, shown_on, session, cells_wanted, screen_session, screen_of};
+ghost use Rattle.screen.specs.Screen.{shown_on, session, cells_wanted, screen_session, screen_of};
 
 use crate::session::{Report, show_image};
 use image::header::Header;
-use labels::cell::{Cell, Tag, Word};
+use labels::cell::Cell;
 use labels::refusal::Refusal;
 use sitting::sitting::Sitting;
 use std::alloc::{AllocError, Global};
@@ -15,10 +15,11 @@ use std::alloc::{AllocError, Global};
 const OUTPUT_PLACES: usize = 256;
 
 #[derive(Drop)]
-pub enum Screen {
-    Refused(Refusal),
-    // The page list, with the visible outputs at its front, and how the sitting went.
-    Ran(Vec<Cell>, Report),
+pub struct Screen {
+    // How the sitting went, or why it was refused.
+    pub report: Result<Report, Refusal>,
+    // The page list, with the visible outputs at its front. The contract promises the whole list, not its front alone.
+    pub page: Vec<Cell>,
 }
 
 impl Screen {
@@ -42,23 +43,14 @@ impl Screen {
         let mut cells = zero_cells(heap, cells_wanted(image))?;
         let mut outputs = output_places(heap)?;
         let mut page = output_places(heap)?;
-        let answer = show_image(
+        let report = show_image(
             sitting,
             image,
             cells.as_mut_slice(),
             outputs.as_mut_slice(),
             page.as_mut_slice(),
         );
-        Ok(Screen::from_answer(answer, page))
-    }
-
-    fn from_answer(answer: Result<Report, Refusal>, page: Vec<Cell>) -> Screen
-        ensures { shown_on result ≡ report_with answer page.items }
-    {
-        match answer {
-            Ok(report) => Screen::Ran(page, report),
-            Err(refusal) => Screen::Refused(refusal),
-        }
+        Ok(Screen { report, page })
     }
 }
 
@@ -66,10 +58,7 @@ impl Screen {
 pub fn cells_wanted(image: &[u8]) -> usize
     ensures { result ≡ cells_wanted image.now }
 {
-    match Header::read(image) {
-        Ok(header) => header.counts.cells as usize,
-        Err(_) => 0,
-    }
+    Header::read(image).map_or(0, |header| header.counts.cells as usize)
 }
 
 // Room for the outputs of a program, and for a page of them.
@@ -83,9 +72,5 @@ pub fn output_places(heap: Global) -> Result<Vec<Cell>, AllocError>
 pub fn zero_cells(heap: Global, count: usize) -> Result<Vec<Cell>, AllocError>
     ensures { IfOk result (λ v. v.items ≡ replicate count zero_cell) }
 {
-    let zero = Cell {
-        word: Word(0),
-        tag: Tag(0),
-    };
-    vec![in heap; zero; count]
+    vec![in heap; Cell::default(); count]
 }

@@ -5,12 +5,11 @@ use Rattle.labels.specs.declared.cell.Cell.{Cell}
 use Rattle.labels.specs.declared.refusal.Refusal.{Refusal}
 use Rattle.labels.specs.declared.refusal.Refusal.TheVariants.{WrongLength, WrongState}
 use Rattle.image.specs.Load.{check}
-use Rattle.rules.specs.Book.{Book}
 use Rattle.execution.specs.Step.{Answers}
-use Rattle.execution.specs.Run.{RunsTo, Ran, run_by}
+use Rattle.execution.specs.Run.{RunsTo, Ran}
 use Rattle.sitting.specs.declared.sitting.State.TheVariants.{Running}
 use Rattle.sitting.specs.Sitting.{Standing, is_running, machine_state, code_of_sitting, lengths_fit}
-use Rattle.sitting.specs.Run.{run_refusal, RunDone, run_made, run_unless, sitting_run_by, RunUnless, SittingRuns}
+use Rattle.sitting.specs.Run.{run_refusal, RunDone, run_made, RunUnless, SittingRuns}
 
 module _ (s : Standing) (image : List ℕ) (cells outputs : List Cell) (running : s.state ≡ Running) (fit : lengths_fit s.opening image cells outputs ≡ true) where
   not_refused : run_refusal s image cells outputs ≡ None
@@ -21,7 +20,3 @@ module _ (s : Standing) (image : List ℕ) (cells outputs : List Cell) (running 
   pub run_is_made : {E : Type 0} (answers : Answers E) (budget : ℕ) (e e' : E) (r : Ran) (done : RunDone) → RunsTo answers (code_of_sitting s image) budget (machine_state s cells outputs) e r.outcome r.granted r.state e' → done ≡ run_made s r → SittingRuns answers s image cells outputs budget e done e'
   run_is_made answers budget e e' r done runs is =
       subst (λ (o : Option Refusal). RunUnless answers o s image cells outputs budget e done e') (sym not_refused) (r, runs, is)
-
-  pub run_is_by_book : (book : Book) (budget : ℕ) (r : Ran) (done : RunDone) → r ≡ run_by book (code_of_sitting s image) budget (machine_state s cells outputs) → done ≡ run_made s r → done ≡ sitting_run_by book s image cells outputs budget
-  run_is_by_book book budget r done by is =
-      is ∙ ap (run_made s) by ∙ ap (λ o. run_unless o (run_by book (code_of_sitting s image) budget (machine_state s cells outputs)) s cells outputs) (sym not_refused)

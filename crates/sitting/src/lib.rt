@@ -6,3 +6,4 @@ pub mod open;
 pub mod open_named;
 pub mod run;
 pub mod sitting;
+pub mod state;

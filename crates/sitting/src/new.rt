@@ -4,9 +4,8 @@ ghost use Rattle.machine.specs.Machine.{register_named};
 ghost use Rattle.sitting.specs.Sitting.{standing, blank, lengths_fit};
 
 use crate::sitting::{Opening, Sitting, State};
-use image::header::{Counts, Header};
+use image::header::Header;
 use labels::cell::{Cell, Tag};
-use labels::name::{OrderName, Parameters};
 use machine::machine::Machine;
 
 impl Sitting {
@@ -14,23 +13,9 @@ impl Sitting {
     pub fn new() -> Sitting
         ensures { standing result ≡ blank }
     {
-        let header = Header {
-            version: 0,
-            order: OrderName {
-                kind: 0,
-                parameters: Parameters { p: 0, q: 0 },
-            },
-            counts: Counts { code: 0, cells: 0 },
-            reader: Tag(0),
-        };
         Sitting {
             state: State::Blank,
-            opening: Opening {
-                header,
-                image_length: 0,
-                cells_length: 0,
-                outputs_length: 0,
-            },
+            opening: Opening::default(),
             machine: Machine::new(),
         }
     }
@@ -53,9 +38,9 @@ impl Sitting {
     pub fn lengths_fit(&self, image: &[u8], cells: &[Cell], outputs: &[Cell]) -> bool
         ensures { result ≡ lengths_fit (standing self.now).opening image.now cells.now outputs.now }
     {
-        (image.len() == self.opening.image_length)
-            & (cells.len() == self.opening.cells_length)
-            & (outputs.len() == self.opening.outputs_length)
+        image.len() == self.opening.image_length
+            && cells.len() == self.opening.cells_length
+            && outputs.len() == self.opening.outputs_length
     }
 
     // The register of a number below 16.

@@ -29,7 +29,8 @@ impl Sitting {
         self.open_in(order, image, cells, outputs)
     }
 
-    // As `open`, in an order of some kind.
+    // As `open`, in an order of some kind. An arm for each make: a trait's method would need ghost members for what each call
+    // promises.
     fn open_in(
         &mut self,
         order: NamedOrder,
@@ -52,7 +53,7 @@ impl Sitting {
         ensures { made_as meaning_of result ≡ order_found (standing self.now) image.now }
     {
         let header = self.check_start(image)?;
-        NamedOrder::new(header.order)
+        NamedOrder::try_from(header.order)
     }
 
     // The checks that come before the order's, and the header.

@@ -3,9 +3,10 @@ ghost use Rattle.std.specs.Prelude.{◌≡◌, ◌+◌, ◌*◌, ◌≤◌, true
 ghost use Rattle.rules.specs.Book.{Book};
 ghost use Rattle.sitting.specs.declared.sitting.State.TheVariants.{Running};
 ghost use Rattle.sitting.specs.Sitting.{standing, in_state};
-ghost use Rattle.sitting.specs.Run.{run_done, SittingRuns, sitting_run_by, ended, state_after};
+ghost use Rattle.sitting.specs.Run.{run_done, SittingRuns, sitting_run_by, state_after};
 
 use crate::sitting::{Sitting, State};
+use execution::code::Code;
 use execution::outcome::End;
 use execution::run::run;
 use labels::cell::Cell;
@@ -34,41 +35,22 @@ impl Sitting {
         if !self.lengths_fit(image, cells, outputs) {
             return Err(Refusal::WrongLength);
         }
-        let code = self.opening.header.counts.code;
-        let mut granted = 0;
-        let outcome = run(
-            &mut self.machine,
-            engine,
-            image,
-            code,
-            cells,
-            outputs,
-            budget,
-            &mut granted,
-        );
+        let code = Code::new(image, self.opening.header.counts.code);
+        let (outcome, granted) = run(&mut self.machine, engine, &code, cells, outputs, budget);
         self.come_to(outcome);
         Ok(granted)
     }
 
-    // A running sitting halts or ends as its machine did.
+    // A running sitting halts or ends as its machine did. By a rule of the project a call matches the sitting's own state
+    // together with the outcome of its steps, and sets the new state in place.
     fn come_to(&mut self, outcome: Result<Progress, End>)
         requires { self.old.state ≡ Running }
         ensures { standing self.new ≡ in_state (state_after outcome) (standing self.old) }
     {
         match (self.state, outcome) {
             (State::Running, Ok(Progress::Halts)) => self.state = State::Halted,
-            (State::Running, Err(end)) => self.state = ended(end),
+            (State::Running, Err(end)) => self.state = State::from(end),
             _ => {}
         }
-    }
-}
-
-// The state of a sitting whose machine came to an end; the cause stays.
-fn ended(end: End) -> State
-    ensures { result ≡ ended end }
-{
-    match end {
-        End::Faulted(fault) => State::Faulted(fault),
-        End::Violated(violation) => State::Violated(violation),
     }
 }

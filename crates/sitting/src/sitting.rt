@@ -18,7 +18,7 @@ pub enum State {
 }
 
 // What an opening fixes: the image's header, and the lengths of image, cells and outputs.
-#[derive(Clone, Copy)]
+#[derive(Clone, Copy, Default)]
 pub struct Opening {
     pub header: Header,
     pub image_length: usize,
@@ -26,6 +26,8 @@ pub struct Opening {
     pub outputs_length: usize,
 }
 
+// Contracts see a sitting by `standing`. It has no impl Model: a call that is refused promises that the whole sitting stays,
+// hidden parts too, and under a model it could promise that only of what is seen.
 #[derive(Drop)]
 pub struct Sitting {
     pub(crate) state: State,

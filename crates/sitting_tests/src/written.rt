@@ -46,17 +46,11 @@ fn comes_back(
     assert!(rt; sitting.open(&order, buffer, opened, &[]).is_ok(), "opened");
     let header = sitting.header();
     assert!(rt; header.reader == Tag(1) && header.counts.code as usize == code.len());
-    for number in 0..header.counts.code {
-        let (Some(written), Some(read)) = (
-            code.get(number as usize),
-            read_code(buffer, u32::from(number)),
-        ) else {
+    for (number, written) in (0..).zip(code) {
+        let Some(read) = read_code(buffer, number) else {
             return Err(Fail::new("there are as many entries as were written"));
         };
-        assert!(rt;
-            written.tag == read.tag && written.bits == read.bits,
-            "an entry"
-        );
+        assert!(rt; read == *written, "an entry");
     }
     for (written, read) in cells.iter().zip(opened.iter()) {
         assert!(rt; *written == *read, "a cell");

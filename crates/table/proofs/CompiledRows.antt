@@ -16,10 +16,10 @@ use Rattle.rules.proofs.Cleared.{judged_alike}
 use Rattle.rules.proofs.Judged.{used_weaker, flow_no_class, flow_no_label, GrantsLabels, flow_grants_labels}
 use Rattle.table.specs.Packing.{pack, unpack}
 use Rattle.table.specs.Numbering.{class_size, class_start, row_count, number, query_of}
-use Rattle.table.specs.Layout.{layout_for, row_of}
+use Rattle.table.specs.Layout.{row_of}
 use Rattle.table.specs.Table.{below, table_book, size_fits}
 use Rattle.table.specs.Compiled.{class_rows, rows_below, compiled, compile_answer, compile_rows}
-use Rattle.table.proofs.RowCounts.{start_more, start_rises, class_starts_at, row_count_is}
+use Rattle.table.proofs.RowCounts.{start_more, start_rises, row_count_is}
 use Rattle.table.proofs.RowNumbers.{number_in_class, query_back}
 use Rattle.table.proofs.PackedRows.{Small, unpack_pack}
 
@@ -69,20 +69,23 @@ module _ (n : ℕ) (m : Meaning) where
       let all : length rows ≤ class_start n 14 = omega (arith, row_count_is n) in
       sym (take_all (class_start n 14) rows all) ∙ subst (λ (x : ℕ). take (class_start n x) rows ≡ rows_below n m x) e before
 
+-- the book at a query whose used tags are below n
+pub book_row : (n : ℕ) (rows : List ℕ) (q : Query) → ruled q.class ≡ true → each_used (below n) (rule q.class).mask q ≡ true → table_book n rows q ≡ unpack (get_or rows (row_of n q) 0)
+book_row n rows q h l = rw (h, l) refl
+
 grants_small : (m : Meaning) → Laws m → m.bound ≤ 8 → (v : Verdict) → GrantsLabels m v → Small v
 grants_small m laws few (Ok g) l = (omega (arith, laws.below_bound g.0 l.0), omega (arith, laws.below_bound g.1 l.1))
 grants_small m laws few (Err x) l = tt
 
 -- the row of a query whose used tags are below the bound is its verdict
 row_judged : (m : Meaning) → Laws m → m.bound ≤ 8 → (q : Query) → ruled q.class ≡ true → each_used (below m.bound) (rule q.class).mask q ≡ true
-    → unpack (get_or (compiled m) (row_of (layout_for m.bound) q) 0) ≡ flow m q
+    → unpack (get_or (compiled m) (row_of m.bound q) 0) ≡ flow m q
 row_judged m laws few q h l =
     let n : ℕ = m.bound in
     let mask : ℕ = (rule q.class).mask in
     let low : q.class ≤ 13 = leb-true q.class 13 h in
-    let start : row_of (layout_for n) q ≡ class_start n q.class + number n mask q = ap (λ s. s + number n mask q) (class_starts_at n q.class (omega arith)) in
-    let read : get_or (compiled m) (row_of (layout_for n) q) 0 ≡ pack (flow m (query_of n q.class (number n mask q))) =
-    ap (λ r. get_or (compiled m) r 0) start ∙ class_rows_at n m 14 q.class (number n mask q) (omega arith) (number_in_class n q low l) in
+    let read : get_or (compiled m) (row_of n q) 0 ≡ pack (flow m (query_of n q.class (number n mask q))) =
+    class_rows_at n m 14 q.class (number n mask q) (omega arith) (number_in_class n q low l) in
     let same : flow m (query_of n q.class (number n mask q)) ≡ flow m q =
     ap (flow m) (query_back n mask q l ∙ sym (cond-true (ruled q.class) (cleared_by mask q) q h)) ∙ judged_alike m q in
     ap unpack (read ∙ ap pack same) ∙ unpack_pack (flow m q) (grants_small m laws few (flow m q) (flow_grants_labels m laws q))
@@ -95,20 +98,20 @@ no_label m laws q mask l =
     (λ (f : each_used m.label mask q ≡ false). f)
     (cases_Bool (each_used m.label mask q))
 
-pub compiled_judges : (m : Meaning) → Laws m → m.bound ≤ 8 → (q : Query) → flow m q ≡ table_book (layout_for m.bound) (compiled m) q
+pub compiled_judges : (m : Meaning) → Laws m → m.bound ≤ 8 → (q : Query) → flow m q ≡ table_book m.bound (compiled m) q
 compiled_judges m laws few q =
     let mask : ℕ = (rule q.class).mask in
     ⊎_elim
     (λ (h : ruled q.class ≡ true).
     ⊎_elim
-    (λ (l : each_used (below m.bound) mask q ≡ true). sym (rw (h, l) (row_judged m laws few q h l)))
+    (λ (l : each_used (below m.bound) mask q ≡ true). sym (book_row m.bound (compiled m) q h l ∙ row_judged m laws few q h l))
     (λ (l : each_used (below m.bound) mask q ≡ false). flow_no_label m q h (no_label m laws q mask l) ∙ sym (rw (h, l) refl))
     (cases_Bool (each_used (below m.bound) mask q)))
     (λ (h : ruled q.class ≡ false). flow_no_class m q h ∙ sym (rw h refl))
     (cases_Bool (ruled q.class))
 
 -- what a granted compile leaves in the rows
-pub compile_judges : (m : Meaning) → Laws m → (rows after : List ℕ) → Ok tt ≡ compile_answer m rows → after ≡ compile_rows m rows → (q : Query) → flow m q ≡ table_book (layout_for m.bound) after q
+pub compile_judges : (m : Meaning) → Laws m → (rows after : List ℕ) → Ok tt ≡ compile_answer m rows → after ≡ compile_rows m rows → (q : Query) → flow m q ≡ table_book m.bound after q
 compile_judges m laws rows after granted filled q =
     let fits = size_fits m.bound (length rows) in
     ⊎_elim
@@ -116,7 +119,7 @@ compile_judges m laws rows after granted filled q =
     let parts = and_parts (leb 1 m.bound && leb m.bound 8) (eqb (length rows) (row_count m.bound)) h in
     let few = leb-true m.bound 8 (and_parts (leb 1 m.bound) (leb m.bound 8) parts.0).1 in
     let same : after ≡ compiled m = filled ∙ cond-true fits (compiled m) rows h in
-    compiled_judges m laws few q ∙ ap (λ r. table_book (layout_for m.bound) r q) (sym same))
+    compiled_judges m laws few q ∙ ap (λ r. table_book m.bound r q) (sym same))
     (λ (h : fits ≡ false).
     let refused = granted ∙ cond-false fits (Ok tt) (Err WrongTableSize) h in
     let z : ◌≡◌ {A = ℕ} 0 1 = cc in

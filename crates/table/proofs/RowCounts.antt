@@ -1,13 +1,12 @@
 -- How many rows there are: bounds, and the starts of the classes.
-use Rattle.std.proofs.Common.{◌≡◌, ℕ, zero, suc, ◌+◌, ◌*◌, ◌^◌, ◌<◌, ◌≤◌, true, leb, get_or, Some, None, refl, ap, ◌∙◌, ⊎_elim, add-one, arith, lit<}
+use Rattle.std.proofs.Common.{◌≡◌, ℕ, zero, suc, ◌+◌, ◌*◌, ◌^◌, ◌<◌, ◌≤◌, true, leb, get_or, refl, ap, ◌∙◌, ⊎_elim, add-one, arith, lit<}
 use native.Mathlib.Nat.{pow-le-pow_left, pow-le-pow_right}
 use lib.Count.{ones, ones_in}
 use Rattle.std.proofs.lemmas.List.FromFn.{get_or-map-range_with_len}
-use Rattle.std.proofs.lemmas.Bool.{leb-true, le-leb, cases_lt, cond-true}
-use Rattle.rules.specs.Rules.{rule, ruled, mask_of}
+use Rattle.std.proofs.lemmas.Bool.{leb-true, cases_lt}
+use Rattle.rules.specs.Rules.{rule}
 use Rattle.rules.proofs.Classes.{each_below}
 use Rattle.table.specs.Numbering.{class_size, class_start, class_starts, row_count}
-use Rattle.table.specs.Layout.{layout_for}
 use Rattle.table.specs.declared.layout.Layout.{Layout}
 
 -- at most four tags are used
@@ -42,16 +41,16 @@ pub class_starts_at : (n k : ℕ) → k < 15 → get_or (class_starts n) k 0 ≡
 unfolding class_starts
 class_starts_at n k h = get_or-map-range_with_len (class_start n) 0 15 k k 0 h (omega arith)
 
-pub start_known : (l : Layout) (k : ℕ) → l ≡ layout_for l.labels → k < 15 → get_or l.starts k 0 ≡ class_start l.labels k
-start_known l k e h = ap (λ x. get_or x.starts k 0) e ∙ class_starts_at l.labels k h
-
-pub last_start : (n : ℕ) → get_or (class_starts n) 14 0 ≡ row_count n
+last_start : (n : ℕ) → get_or (class_starts n) 14 0 ≡ row_count n
 unfolding row_count
 last_start n = class_starts_at n 14 (omega arith)
 
--- the mask that the code has is the rule's
-pub mask_known : (class mask : ℕ) → class ≤ 13 → Some mask ≡ mask_of class → mask ≡ (rule class).mask
-mask_known class mask h e = let f = e ∙ cond-true (ruled class) (Some (rule class).mask) None (le-leb class 13 h) in cc
+-- what a layout holds
+pub start_known : (l : Layout) (k : ℕ) → k < 15 → get_or l.starts k 0 ≡ class_start l.labels k
+start_known l k h = ap (λ starts. get_or starts k 0) l.in_turn ∙ class_starts_at l.labels k h
+
+pub count_known : (l : Layout) → get_or l.starts 14 0 ≡ row_count l.labels
+count_known l = ap (λ starts. get_or starts 14 0) l.in_turn ∙ last_start l.labels
 
 pub row_count_is : (n : ℕ) → row_count n ≡ class_start n 14
 unfolding row_count
@@ -63,12 +62,9 @@ pub record Part (n k from to long : ℕ) : Type 0 where
   pub size : to ≡ from + class_size n k
   pub fits : to ≤ long
 
-pub part_of : (l : Layout) (k from to long : ℕ) → l ≡ layout_for l.labels → k ≤ 13 → from ≡ get_or l.starts k 0 → to ≡ get_or l.starts (k + 1) 0 → long ≡ row_count l.labels → Part l.labels k from to long
-part_of l k from to long known low first last rows =
-    let n : ℕ = l.labels in
-    let from_is = start_known l k known (omega arith) in
-    let to_is = start_known l (k + 1) known (omega arith) in
+pub part_of : (n k from to long : ℕ) → k ≤ 13 → from ≡ class_start n k → to ≡ class_start n (k + 1) → long ≡ row_count n → Part n k from to long
+part_of n k from to long low first last rows =
     let more = start_more n k in
     let rises = start_rises n (k + 1) 14 (omega arith) in
     let all = row_count_is n in
-    record { start = first ∙ from_is; size = omega arith; fits = omega arith }
+    record { start = first; size = omega arith; fits = omega arith }

@@ -7,9 +7,7 @@ use Rattle.labels.specs.declared.refusal.Refusal.TheVariants.{WrongTableSize}
 use Rattle.rules.specs.Flow.{flow}
 use Rattle.table.specs.Packing.{pack}
 use Rattle.table.specs.Numbering.{class_size, query_of}
-use Rattle.table.specs.Layout.{layout_for}
 use Rattle.table.specs.Table.{size_fits}
-use Rattle.table.specs.declared.layout.Layout.{Layout}
 
 -- the row of each query of a class is its verdict
 abbrev pub class_rows : ℕ → Meaning → ℕ → List ℕ
@@ -32,5 +30,5 @@ abbrev pub compile_rows : Meaning → List ℕ → List ℕ
 compile_rows m rows = cond (size_fits m.bound (length rows)) (compiled m) rows
 
 -- the table over the rows of an order
-abbrev pub compiled_table : Meaning → List ℕ → Result (Layout × List ℕ) Refusal
-compiled_table m rows = cond (size_fits m.bound (length rows)) (Ok (layout_for m.bound, compiled m)) (Err WrongTableSize)
+abbrev pub compiled_table : Meaning → List ℕ → Result (ℕ × List ℕ) Refusal
+compiled_table m rows = cond (size_fits m.bound (length rows)) (Ok (m.bound, compiled m)) (Err WrongTableSize)

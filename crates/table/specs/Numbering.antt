@@ -1,10 +1,14 @@
 -- The rows of a table for n labels: how many there are, and the number and the query of a row within its class.
-use Rattle.std.specs.Prelude.{ℕ, zero, suc, ◌+◌, ◌*◌, ◌/◌, ◌%◌, ◌^◌, cond, List, map, ◌==◌, bit_and, count_ones}
+use Rattle.std.specs.Prelude.{ℕ, zero, suc, ◌+◌, ◌*◌, ◌/◌, ◌%◌, ◌^◌, Bool, cond, ◌&&◌, List, map, ◌==◌, bit_and, count_ones, nat_le}
 use Rattle.std.specs.List.{range_with_len}
 use Rattle.labels.specs.Order.{tag}
 use Rattle.labels.specs.declared.cell.Tag.{Tag}
 use Rattle.rules.specs.Rules.{rule}
 use Rattle.rules.specs.declared.query.Query.{Query}
+
+-- a table has 1 to 8 labels
+abbrev pub labels_fit : ℕ → Bool
+labels_fit n = nat_le 1 n && nat_le n 8
 
 -- a class has a row for each choice of its used tags
 abbrev pub class_size : ℕ → ℕ → ℕ

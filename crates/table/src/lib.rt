@@ -2,7 +2,6 @@
 #![tactic(auto)]
 
 pub mod compile;
-mod digits;
 mod layout;
 mod packing;
 pub mod table;

@@ -1,4 +1,5 @@
 // A verdict in a row of 32 bits, and back: cause 4 bits, next pc tag 14, result tag 14.
+// It is packed by hand, since the rows are numbers of 32 bits that the caller lends.
 ghost use Rattle.std.specs.Prelude.{◌≡◌, ◌/◌, ◌%◌, ◌^◌};
 ghost use Rattle.labels.specs.Order.{tag};
 ghost use Rattle.table.specs.Packing.{pack, unpack};
@@ -14,10 +15,7 @@ pub(crate) fn packed(verdict: Verdict) -> u32
     ensures { result ≡ pack verdict }
 {
     match verdict {
-        Ok(grant) => {
-            let (next, result) = grant;
-            next.0 as u32 % TAGS * TAGS + result.0 as u32 % TAGS
-        }
+        Ok((next, result)) => next.0 as u32 % TAGS * TAGS + result.0 as u32 % TAGS,
         Err(violation) => (violation.cause as u32) << 28,
     }
 }

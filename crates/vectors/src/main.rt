@@ -4,48 +4,27 @@
 // it. Any other line is printed as it stands.
 #![tactic(auto)]
 
-ghost use Rattle.std.specs.Prelude.{◌<◌, IfOk};
-
-use anyhow::anyhow;
+use anyhow::bail;
 use screen::screen::Screen;
 use std::alloc::Global;
 use std::io::{BufRead, BufReader};
 
-fn hex_digit(c: u8) -> anyhow::Result<u8>
-    ensures { IfOk result (λ d. d < 16) }
-{
-    match c {
-        b'0'..=b'9' => Ok(c - b'0'),
-        b'a'..=b'f' => Ok(c - b'a' + 10),
-        _ => Err(anyhow!("not a hexadecimal digit")),
-    }
-}
-
-fn push_hex(image: &mut Vec<u8>, digits: &[u8]) -> anyhow::Result<()> {
-    for pair in digits.chunks(2) {
-        let [high, low] = pair else {
-            return Err(anyhow!("half a byte"));
-        };
-        image.push(hex_digit(*high)? * 16 + hex_digit(*low)?)?;
-    }
-    Ok(())
-}
-
+// Adds the bytes of a word.
 fn push_word(image: &mut Vec<u8>, word: &str) -> anyhow::Result<()> {
-    match word.split_once('*') {
-        Some((digits, times)) => {
-            for _ in 0..times.parse::<u16>()? {
-                push_hex(image, digits.as_bytes())?;
-            }
-        }
-        None => push_hex(image, word.as_bytes())?,
+    let (digits, times) = word.split_once('*').unwrap_or((word, "1"));
+    if digits.bytes().any(|digit| digit.is_ascii_uppercase()) {
+        bail!("a capital digit");
+    }
+    let bytes = hex::decode(*image.allocator(), digits)?;
+    for _ in 0..times.parse::<u16>()? {
+        image.extend_from_slice(bytes.as_slice())?;
     }
     Ok(())
 }
 
-fn image_of(heap: Global, line: &str) -> anyhow::Result<Vec<u8>> {
+fn image_of(heap: Global, words: &str) -> anyhow::Result<Vec<u8>> {
     let mut image = Vec::new(heap);
-    for word in line.split_whitespace() {
+    for word in words.split_whitespace() {
         push_word(&mut image, word)?;
     }
     Ok(image)

@@ -1,13 +1,14 @@
-// What pages and peeks share: their checks, and the end mark.
+// What pages and peeks share: their checks, the reader, and the end mark.
 ghost use Rattle.std.specs.Prelude.{◌≡◌, None};
 ghost use Rattle.image.specs.Load.{answer};
+ghost use Rattle.observer.specs.Observer.{observer_of};
 ghost use Rattle.sitting.specs.Sitting.{standing};
-ghost use Rattle.viewing.specs.Page.{reader_of, has_end_mark, look_refusal};
+ghost use Rattle.viewing.specs.Page.{has_end_mark, look_refusal};
 
 use labels::cell::Cell;
 use labels::order::{Order, has_name};
 use labels::refusal::Refusal;
-use observer::reader::is_visible;
+use observer::reader::Reader;
 use sitting::sitting::{Sitting, State};
 
 // An opened sitting, its order, and memory of the opening's lengths.
@@ -32,12 +33,20 @@ pub(crate) fn check_look<O: Order>(
     Ok(())
 }
 
+// The reader of the sitting's header.
+pub(crate) fn reader_of<'o, O: Order>(sitting: &Sitting, order: &'o O) -> Reader<'o, O>
+    ensures order { result.order.now ≡ order.now }
+    ensures label { result.label ≡ (standing sitting.now).opening.header.reader }
+{
+    Reader::new(order, sitting.header().reader)
+}
+
 // Whether the sitting is halted and its pc tag is visible.
-pub(crate) fn end_mark<O: Order>(sitting: &Sitting, order: &O) -> bool
-    ensures { result ≡ has_end_mark (reader_of (O.meaning order.now) (standing sitting.now)) (standing sitting.now) }
+pub(crate) fn end_mark<O: Order>(sitting: &Sitting, reader: &Reader<O>) -> bool
+    ensures { result ≡ has_end_mark (observer_of O.meaning reader.now) (standing sitting.now) }
 {
     match sitting.state() {
-        State::Halted => is_visible(order, sitting.header().reader, sitting.pc_tag()),
+        State::Halted => reader.sees(sitting.pc_tag()),
         _ => false,
     }
 }

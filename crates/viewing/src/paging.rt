@@ -1,14 +1,13 @@
 // A page: the outputs that are visible to the sitting's reader, and the end mark.
-ghost use Rattle.std.specs.Prelude.{◌≡◌, min, length, take};
+ghost use Rattle.std.specs.Prelude.{◌≡◌, take};
 ghost use Rattle.sitting.specs.Sitting.{standing};
 ghost use Rattle.viewing.specs.Page.{page_answer, page_written};
 
-use crate::look::{check_look, end_mark};
+use crate::look::{check_look, end_mark, reader_of};
 use crate::page::Page;
 use labels::cell::Cell;
 use labels::order::Order;
 use labels::refusal::Refusal;
-use observer::visible::write_visible;
 use sitting::sitting::Sitting;
 
 // Writes the visible outputs in their order to the front of the page list, and answers how many there are and the end
@@ -26,17 +25,24 @@ pub fn page<O: Order>(
 {
     check_look(sitting, order, image, cells, outputs)?;
     let so_far = outputs_so_far(sitting, outputs);
-    let visible = write_visible(order, sitting.header().reader, so_far, page)?;
+    let reader = reader_of(sitting, order);
+    let visible = reader.write_visible(so_far, page)?;
     Ok(Page {
         outputs: visible,
-        end_mark: end_mark(sitting, order),
+        end_mark: end_mark(sitting, &reader),
     })
 }
 
 // The outputs so far; nothing says that there are places for them all.
 fn outputs_so_far<'a>(sitting: &Sitting, outputs: &'a [Cell]) -> &'a [Cell]
-    ensures { result.now ≡ take (min (standing sitting.now).machine.outputs (length outputs.now)) outputs.now }
+    ensures { result.now ≡ take (standing sitting.now).machine.outputs outputs.now }
 {
-    let count = sitting.output_count().min(outputs.len());
-    &outputs[0..count]
+    first(outputs, sitting.output_count())
+}
+
+// The first so many of a list, or all where it has fewer.
+pub fn first(list: &[Cell], count: usize) -> &[Cell]
+    ensures { result.now ≡ take count list.now }
+{
+    list.get(..count).unwrap_or(list)
 }

@@ -2,16 +2,16 @@
 ghost use Rattle.std.specs.Prelude.{◌≡◌, ◌≤◌, [], length, None};
 ghost use Rattle.labels.specs.declared.refusal.Refusal.TheVariants.{NoEndMark, OutOfRange};
 ghost use Rattle.image.specs.Load.{check, answer};
-ghost use Rattle.observer.specs.Observer.{shown};
+ghost use Rattle.observer.specs.Observer.{observer_of};
 ghost use Rattle.sitting.specs.Sitting.{standing, machine_state};
-ghost use Rattle.viewing.specs.Page.{reader_of, has_end_mark};
-ghost use Rattle.viewing.specs.Peek.{in_range, cell_there, peeked, peek_answer};
+ghost use Rattle.viewing.specs.Page.{has_end_mark};
+ghost use Rattle.viewing.specs.Peek.{in_range, cell_there, peek_answer};
 
-use crate::look::{check_look, end_mark};
+use crate::look::{check_look, end_mark, reader_of};
 use labels::cell::Cell;
 use labels::order::Order;
 use labels::refusal::Refusal;
-use observer::reader::visible_cell;
+use observer::reader::Reader;
 use sitting::sitting::Sitting;
 
 // A register or a cell, by its number.
@@ -21,14 +21,7 @@ pub enum Location {
     CellNumber(u32),
 }
 
-// Word and tag, or hidden where the tag is not visible.
-#[derive(Clone, Copy)]
-pub enum Peeked {
-    Shown(Cell),
-    Hidden,
-}
-
-// Answers word and tag of a register or cell, or that they are hidden; or answers the first refusal.
+// Answers word and tag of a register or cell, or none where the tag is not visible; or answers the first refusal.
 pub fn peek<O: Order>(
     sitting: &Sitting,
     order: &O,
@@ -36,20 +29,21 @@ pub fn peek<O: Order>(
     cells: &[Cell],
     outputs: &[Cell],
     at: Location,
-) -> Result<Peeked, Refusal>
+) -> Result<Option<Cell>, Refusal>
     ensures { result ≡ peek_answer (O.meaning order.now) (standing sitting.now) image.now cells.now outputs.now at }
 {
     check_look(sitting, order, image, cells, outputs)?;
-    check_end_mark(sitting, order)?;
+    let reader = reader_of(sitting, order);
+    check_end_mark(sitting, &reader)?;
     let cell = cell_there(sitting, cells, at)?;
-    Ok(show_cell(sitting, order, cell))
+    Ok(reader.shown(cell))
 }
 
 // Refused where the end mark is not set.
-fn check_end_mark<O: Order>(sitting: &Sitting, order: &O) -> Result<(), Refusal>
-    ensures { result ≡ answer (check (has_end_mark (reader_of (O.meaning order.now) (standing sitting.now)) (standing sitting.now)) NoEndMark None) tt }
+fn check_end_mark<O: Order>(sitting: &Sitting, reader: &Reader<O>) -> Result<(), Refusal>
+    ensures { result ≡ answer (check (has_end_mark (observer_of O.meaning reader.now) (standing sitting.now)) NoEndMark None) tt }
 {
-    if end_mark(sitting, order) {
+    if end_mark(sitting, reader) {
         Ok(())
     } else {
         Err(Refusal::NoEndMark)
@@ -66,15 +60,5 @@ fn cell_there(sitting: &Sitting, cells: &[Cell], at: Location) -> Result<Cell, R
         Location::RegisterNumber(number) => sitting.register(number).ok_or(Refusal::OutOfRange),
         Location::CellNumber(number) if number < count => Ok(cells[number as usize]),
         Location::CellNumber(_) => Err(Refusal::OutOfRange),
-    }
-}
-
-// The cell as the reader sees it.
-fn show_cell<O: Order>(sitting: &Sitting, order: &O, cell: Cell) -> Peeked
-    ensures { result ≡ peeked (shown (reader_of (O.meaning order.now) (standing sitting.now)) cell) }
-{
-    match visible_cell(order, sitting.header().reader, cell) {
-        Some(cell) => Peeked::Shown(cell),
-        None => Peeked::Hidden,
     }
 }

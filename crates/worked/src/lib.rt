@@ -4,6 +4,7 @@
 ghost use Rattle.std.specs.Prelude.{◌≡◌, length};
 ghost use Rattle.worked.specs.Worked.{worked_values, WorkedValuesFollow};
 
+// The length of the list in specs/; a function of its own, so that another number here is refused by its contract.
 fn number_of_values() -> usize
     ensures { result ≡ length worked_values }
 {

@@ -1,13 +1,17 @@
 -- Checks that pass: one by one, and those of loading as a whole.
-use Rattle.std.proofs.Common.{◌≡◌, ℕ, Bool, true, false, eqb, leb, List, length, Some, None, Option, refl, ◌∙◌}
+use Rattle.std.proofs.Common.{◌≡◌, ℕ, ◌+◌, Bool, true, false, cond, eqb, leb, List, [], ◌∷◌, ◌++◌, map, length, Some, None, Ok, Err, Option, Result, refl, ap, ◌∙◌, arith}
 use Rattle.std.proofs.lemmas.Bool.{cond-true}
+use Rattle.std.proofs.lemmas.List.{length-map}
 use Rattle.labels.specs.Order.{Meaning, is_named}
 use Rattle.labels.specs.declared.cell.Tag.{Tag}
+use Rattle.labels.specs.declared.cell.Cell.{Cell}
 use Rattle.labels.specs.declared.refusal.Refusal.{Refusal}
 use Rattle.labels.specs.declared.refusal.Refusal.TheVariants.{ImageTooShort, UnknownVersion, WrongOrder, CountOutsideLimits, WrongImageLength, NotALabel, WrongLength}
+use Rattle.image.specs.declared.entry.CodeEntry.{CodeEntry}
+use Rattle.image.specs.Entry.{cell_entry}
 use Rattle.image.specs.declared.header.Header.{Header}
 use Rattle.image.specs.Layout.{header_of, counts_fit, length_of_image}
-use Rattle.image.specs.Load.{check, check_labels, entry_tags, load_refusal}
+use Rattle.image.specs.Load.{check, answer, EntriesChecked, tags_of, check_labels, entry_tags, load_refusal}
 
 pub passed : (b : Bool) (refusal : Refusal) (next : Option Refusal) → check b refusal next ≡ None → (b ≡ true) × (next ≡ None)
 passed true refusal next e = (refl, e)
@@ -15,6 +19,61 @@ passed false refusal next e = (cc, cc)
 
 pub passes : (b : Bool) (refusal : Refusal) (next : Option Refusal) → b ≡ true → next ≡ None → check b refusal next ≡ None
 passes b refusal next holds none = cond-true b next (Some refusal) holds ∙ none
+
+-- the check of tags behind others
+module _ (label : Tag → Bool) where
+  refused_before : (refusal : Refusal) (place : ℕ) (ts us : List Tag) → check_labels label place ts ≡ Some refusal → check_labels label place (ts ++ us) ≡ Some refusal
+  refused_before refusal place [] us e = cc
+  refused_before refusal place (t ∷ ts) us e = go (label t) (refused_before refusal (place + 1) ts us) e
+    where
+      go : (b : Bool) → (check_labels label (place + 1) ts ≡ Some refusal → check_labels label (place + 1) (ts ++ us) ≡ Some refusal)
+          → cond b (check_labels label (place + 1) ts) (Some (NotALabel place)) ≡ Some refusal → cond b (check_labels label (place + 1) (ts ++ us)) (Some (NotALabel place)) ≡ Some refusal
+      go true rest e = rest e
+      go false rest e = e
+
+  passed_before : (place : ℕ) (ts us : List Tag) → check_labels label place ts ≡ None → check_labels label place (ts ++ us) ≡ check_labels label (place + length ts) us
+  passed_before place [] us e = ap (λ (p : ℕ). check_labels label p us) (omega arith)
+  passed_before place (t ∷ ts) us e =
+      let p = passed (label t) (NotALabel place) (check_labels label (place + 1) ts) e in
+      let next : place + 1 + length ts ≡ place + length (t ∷ ts) = omega arith in
+      cond-true (label t) _ _ p.0 ∙ passed_before (place + 1) ts us p.1 ∙ ap (λ (k : ℕ). check_labels label k us) next
+
+was_refused : (o : Option Refusal) (refusal : Refusal) → Err refusal ≡ answer {A = Unit {0}} o tt → o ≡ Some refusal
+was_refused None refusal e = cc
+was_refused (Some other) refusal e = cc
+
+was_passed : (o : Option Refusal) → Ok tt ≡ answer {A = Unit {0}} o tt → o ≡ None
+was_passed None e = refl
+was_passed (Some other) e = cc
+
+-- checks of the code and then of the cells are those of the tags of both
+module _ (m : Meaning) (code : List CodeEntry) (cells : List Cell) where
+  abbrev code_tags : List Tag
+  code_tags = map (λ (e : CodeEntry). e.tag) code
+
+  abbrev cell_tags : List Tag
+  cell_tags = map (λ (c : Cell). c.tag) cells
+
+  abbrev CodeChecked : Result (Unit {0}) Refusal → Type 0
+  CodeChecked r = EntriesChecked (λ (e entry : CodeEntry). entry ≡ e) m 0 code r
+
+  abbrev CellsChecked : Result (Unit {0}) Refusal → Type 0
+  CellsChecked r = EntriesChecked (λ (c : Cell) (entry : CodeEntry). entry ≡ cell_entry c) m (length code) cells r
+
+  pub code_refused : (refusal : Refusal) → CodeChecked (Err refusal) → check_labels m.label 1 (tags_of code cells) ≡ Some refusal
+  code_refused refusal checked = refused_before m.label refusal 1 code_tags cell_tags (was_refused _ refusal (checked (λ e. e) (λ e entry is. is)))
+
+  code_passed : CodeChecked (Ok tt) → check_labels m.label 1 (tags_of code cells) ≡ check_labels m.label (length code + 1) cell_tags
+  code_passed checked =
+      let place : 1 + length code_tags ≡ length code + 1 = omega (arith, length-map code (λ (e : CodeEntry). e.tag)) in
+      passed_before m.label 1 code_tags cell_tags (was_passed _ (checked (λ e. e) (λ e entry is. is)))
+      ∙ ap (λ (p : ℕ). check_labels m.label p cell_tags) place
+
+  pub cells_refused : (refusal : Refusal) → CodeChecked (Ok tt) → CellsChecked (Err refusal) → check_labels m.label 1 (tags_of code cells) ≡ Some refusal
+  cells_refused refusal before checked = code_passed before ∙ was_refused _ refusal (checked cell_entry (λ c entry is. is))
+
+  pub all_passed : CodeChecked (Ok tt) → CellsChecked (Ok tt) → check_labels m.label 1 (tags_of code cells) ≡ None
+  all_passed before checked = code_passed before ∙ was_passed _ (checked cell_entry (λ c entry is. is))
 
 -- what the checks of loading ask of a header, a length, a number of cells and tags
 pub record Loadable (m : Meaning) (h : Header) (bytes cells : ℕ) (tags : List Tag) : Type 0 where

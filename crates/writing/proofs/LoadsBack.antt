@@ -4,7 +4,7 @@ use Rattle.std.specs.List.{range_with_len, flat_map}
 use Rattle.std.proofs.lemmas.List.FromFn.{fill_by_all}
 use Rattle.std.proofs.lemmas.List.{length-append, get_or_default, get_or_append_left, get_or-append_right, get_or-map}
 use Rattle.std.proofs.lemmas.Bool.{and_parts, and_from, eq-eqb, leb-true, le-leb}
-use Rattle.labels.specs.Order.{Meaning, Laws, tag, is_named}
+use Rattle.labels.specs.Order.{Meaning, Laws, tag, name_of, is_named}
 use Rattle.labels.specs.declared.cell.Tag.{Tag}
 use Rattle.labels.specs.declared.cell.Cell.{Cell}
 use Rattle.labels.specs.declared.refusal.Refusal.TheVariants.{CountOutsideLimits, NotALabel, WrongLength}
@@ -12,7 +12,8 @@ use Rattle.image.specs.declared.header.Header.{Header}
 use Rattle.image.specs.declared.entry.CodeEntry.{CodeEntry}
 use Rattle.image.specs.Layout.{header_of, counts_fit, length_of_image, code_entry_at, cell_entry_at, code_of, cells_of}
 use Rattle.image.specs.Load.{check_labels, tags_of, entry_tags}
-use Rattle.writing.specs.Write.{name_of, counts_of, write_refusal, header_bytes, cell_entry, entries, entry_bytes, written_image, EntriesFit}
+use Rattle.image.specs.Entry.{cell_entry, entry_bytes}
+use Rattle.writing.specs.Write.{counts_of, write_refusal, header_bytes, entries, written_image, EntriesFit}
 use Rattle.writing.specs.RoundTrip.{LoadsBack}
 use Rattle.writing.proofs.Checks.{passed, Loadable, loads}
 use Rattle.writing.proofs.Entries.{entries_length}

@@ -1,15 +1,19 @@
 -- The parts of an image that loads, written out, give its own bytes.
-use Rattle.std.proofs.Common.{◌≡◌, ℕ, zero, suc, ◌+◌, ◌-◌, ◌*◌, ◌/◌, ◌%◌, ◌<◌, ◌≤◌, true, ◌&&◌, eqb, List, [], ◌∷◌, ◌++◌, map, length, get_or, drop, None, sym, refl, ap, ◌∙◌, subst, ⊎_elim, arith}
+use Rattle.std.proofs.Common.{◌≡◌, ℕ, zero, suc, ◌+◌, ◌*◌, ◌/◌, ◌%◌, ◌<◌, ◌≤◌, true, ◌&&◌, eqb, List, [], ◌∷◌, ◌++◌, map, length, get_or, drop, None, sym, refl, ap, ◌∙◌, subst, arith}
 use Rattle.std.specs.List.{range_with_len, flat_map}
-use Rattle.std.proofs.lemmas.List.FromFn.{length-map-range_with_len, get_or-map-range_with_len, fill_by_all}
-use Rattle.std.proofs.lemmas.List.{length-append, length-map, get_or_append_left, get_or-append_right, get_or-map, drop_more, drop_all}
-use Rattle.std.proofs.lemmas.Bool.{and_parts, cases_lt, eqb-true}
-use Rattle.labels.specs.Order.{Meaning}
+use Rattle.std.proofs.lemmas.List.FromFn.{length-map-range_with_len}
+use Rattle.std.proofs.lemmas.List.{drop_more, drop_all}
+use Rattle.std.proofs.lemmas.Bool.{and_parts, eqb-true}
+use Rattle.labels.specs.Order.{Meaning, name_of}
 use Rattle.labels.specs.declared.refusal.Refusal.TheVariants.{CountOutsideLimits, NotALabel, WrongLength}
 use Rattle.image.specs.declared.header.Counts.{Counts}
 use Rattle.image.specs.Layout.{header_of, length_of_image, counts_fit, u16_at, u32_at, code_entry_at, cell_entry_at, code_of, cells_of}
 use Rattle.image.specs.Load.{check, check_labels, entry_tags}
-use Rattle.writing.specs.Write.{name_of, counts_of, write_refusal, u16_bytes, u32_bytes, header_bytes, cell_entry, entries, entry_bytes, written_image}
+use Rattle.image.specs.Entry.{cell_entry, u16_bytes, u32_bytes, entry_bytes}
+use Rattle.writing.specs.Write.{counts_of, write_refusal, header_bytes, entries, written_image}
+use Rattle.std.proofs.lemmas.Simd.{map-map}
+use Rattle.image.specs.declared.entry.CodeEntry.{CodeEntry}
+use Rattle.image.proofs.Ranges.{in_parts}
 use Rattle.writing.proofs.Checks.{passes, Loadable}
 use Rattle.writing.proofs.Numerals.{first_of_two, second_of_two, first_of_four, second_of_four, third_of_four, fourth_of_four}
 
@@ -105,22 +109,8 @@ module _ (image : List ℕ) (bytes : (k : ℕ) → get_or image k 0 < 256) where
     -- the entries of code and cells are those of the image, one after the other
     entries_are : entries (code_of image) (cells_of image) ≡ map (code_entry_at image) (range_with_len 0 (counts.code + counts.cells))
     entries_are =
-        let f = code_entry_at image in
-        let code = code_of image in
-        let more = map cell_entry (cells_of image) in
-        let n = code_length in
-        let k = cells_length in
-        fill_by_all f (entries code (cells_of image)) (counts.code + counts.cells) (f 0)
-        (length-append code more ∙ ap (λ (x : ℕ). length code + x) (length-map (cells_of image) cell_entry) ∙ omega arith)
-        (λ i h.
-        ⊎_elim (λ (below : i < counts.code). get_or_append_left code more (f 0) i (omega arith) ∙ get_or-map-range_with_len f 0 counts.code i i (f 0) below (omega arith))
-        (λ (above : counts.code ≤ i).
-        let same : counts.code + (i - counts.code) ≡ i = omega arith in
-        get_or-append_right code more counts.code i (f 0) n above
-        ∙ get_or-map cell_entry (cells_of image) (i - counts.code) (cell_entry_at image 0) (f 0) (omega arith)
-        ∙ ap cell_entry (get_or-map-range_with_len (λ j. cell_entry_at image (counts.code + j)) 0 counts.cells (i - counts.code) (i - counts.code) (cell_entry_at image 0) (omega arith) (omega arith))
-        ∙ ap f same)
-        (cases_lt i counts.code))
+        ap (λ (xs : List CodeEntry). code_of image ++ xs) (map-map cell_entry (λ i. cell_entry_at image (counts.code + i)) (range_with_len 0 counts.cells))
+        ∙ sym (in_parts (code_entry_at image) counts.code counts.cells)
 
     pub written_own : written_image m (header_of image).reader (code_of image) (cells_of image) ≡ image
     written_own =

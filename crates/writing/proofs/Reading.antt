@@ -3,8 +3,8 @@ use Rattle.std.proofs.Common.{◌≡◌, ℕ, zero, suc, ◌+◌, ◌*◌, ◌<�
 use Rattle.std.specs.List.{flat_map}
 use Rattle.std.proofs.lemmas.List.{drop-drop, drop_all, drop_more, drop_at, get_or-drop}
 use Rattle.image.specs.declared.entry.CodeEntry.{CodeEntry}
+use Rattle.image.specs.Entry.{entry_bytes}
 use Rattle.image.specs.Layout.{u16_at, u32_at, code_entry_at}
-use Rattle.writing.specs.Write.{entry_bytes}
 use Rattle.writing.proofs.Numerals.{two_bytes, four_bytes}
 
 drop_joined : (es : List CodeEntry) (i : ℕ) → drop (6 * i) (flat_map entry_bytes es) ≡ flat_map entry_bytes (drop i es)

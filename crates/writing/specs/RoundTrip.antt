@@ -1,13 +1,13 @@
 -- Writing and loading fit together, both ways.
 use Rattle.std.specs.Prelude.{◌≡◌, ℕ, ◌<◌, List, length, None, Ok, Result, slice_index}
-use Rattle.labels.specs.Order.{Meaning}
+use Rattle.labels.specs.Order.{Meaning, name_of}
 use Rattle.labels.specs.declared.cell.Tag.{Tag}
 use Rattle.labels.specs.declared.cell.Cell.{Cell}
 use Rattle.labels.specs.declared.refusal.Refusal.{Refusal}
 use Rattle.image.specs.declared.entry.CodeEntry.{CodeEntry}
 use Rattle.image.specs.Layout.{header_of, code_of, cells_of}
 use Rattle.image.specs.Load.{load_refusal}
-use Rattle.writing.specs.Write.{name_of, counts_of}
+use Rattle.writing.specs.Write.{counts_of}
 
 -- An image loads in an order, and gives back the reader, the code and the cells.
 pub record LoadsBack (m : Meaning) (reader : Tag) (code : List CodeEntry) (cells : List Cell) (image : List ℕ) : Type 0 where

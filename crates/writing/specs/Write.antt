@@ -1,7 +1,7 @@
 -- What writing an image does: the checks in their order, and the bytes.
-use Rattle.std.specs.Prelude.{ℕ, ◌+◌, ◌-◌, ◌*◌, ◌/◌, ◌%◌, ◌<◌, cond, List, [], ◌∷◌, ◌++◌, map, length, get_or, take, drop, Option, Result, ◌==◌, nat_lt, slice_index_or}
+use Rattle.std.specs.Prelude.{ℕ, ◌+◌, ◌*◌, ◌<◌, List, ◌∷◌, ◌++◌, map, length, get_or, take, drop, Option, Result, ◌==◌}
 use Rattle.std.specs.List.{flat_map}
-use Rattle.labels.specs.Order.{Meaning, tag, parameters_of}
+use Rattle.labels.specs.Order.{Meaning, name_of}
 use Rattle.labels.specs.declared.cell.Tag.{Tag}
 use Rattle.labels.specs.declared.cell.Cell.{Cell}
 use Rattle.labels.specs.declared.name.OrderName.{OrderName}
@@ -9,11 +9,9 @@ use Rattle.labels.specs.declared.refusal.Refusal.{Refusal}
 use Rattle.labels.specs.declared.refusal.Refusal.TheVariants.{CountOutsideLimits, WrongLength}
 use Rattle.image.specs.declared.header.Counts.{Counts}
 use Rattle.image.specs.declared.entry.CodeEntry.{CodeEntry}
+use Rattle.image.specs.Entry.{cell_entry, u16_bytes, entry_bytes}
 use Rattle.image.specs.Layout.{counts_fit, length_of_image}
 use Rattle.image.specs.Load.{check, answer, unless_refused, label_check, check_labels, tags_of}
-
-abbrev pub name_of : Meaning → OrderName
-name_of m = record { kind = m.kind; parameters = parameters_of m }
 
 abbrev pub counts_of : List CodeEntry → List Cell → Counts
 counts_of code cells = record { code = length code; cells = length cells }
@@ -25,13 +23,6 @@ write_refusal m reader code cells bytes =
     (check (bytes == length_of_image (counts_of code cells)) WrongLength
     (label_check m.label reader 0
     (check_labels m.label 1 (tags_of code cells))))
-
--- numbers as bytes, most significant byte first
-abbrev pub u16_bytes : ℕ → List ℕ
-u16_bytes n = n / 256 % 256 ∷ n % 256 ∷ []
-
-abbrev pub u32_bytes : ℕ → List ℕ
-u32_bytes n = n / 16777216 % 256 ∷ n / 65536 % 256 ∷ n / 256 % 256 ∷ n % 256 ∷ []
 
 -- two numbers of four bits as a byte
 abbrev pub packed : ℕ → ℕ → ℕ
@@ -46,21 +37,9 @@ header_bytes name counts reader =
 abbrev pub replaced : List ℕ → ℕ → ℕ → List ℕ → List ℕ
 replaced xs at n ys = take at xs ++ (ys ++ drop n (drop at xs))
 
--- a cell is written as its tag and its word
-abbrev pub cell_entry : Cell → CodeEntry
-cell_entry c = record { tag = c.tag; bits = c.word.0 }
-
 -- the entries, code and then cells
 abbrev pub entries : List CodeEntry → List Cell → List CodeEntry
 entries code cells = code ++ map cell_entry cells
-
--- the entry of a number
-abbrev pub entry_of : List CodeEntry → List Cell → ℕ → CodeEntry
-entry_of code cells i =
-    cond (nat_lt i (length code)) (slice_index_or code i (record { tag = tag 0; bits = 0 })) (cell_entry (slice_index_or cells (i - length code) (record { word = record { 0 = 0 }; tag = tag 0 })))
-
-abbrev pub entry_bytes : CodeEntry → List ℕ
-entry_bytes e = u16_bytes e.tag.0 ++ u32_bytes e.bits
 
 -- the bytes of an image: eight of the header, and six for each entry
 abbrev pub written_image : Meaning → Tag → List CodeEntry → List Cell → List ℕ

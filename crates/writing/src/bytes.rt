@@ -1,6 +1,7 @@
-// The bytes of a header and of an entry, and their places in a buffer.
+// The bytes of a header, and the places of header and entries in a buffer.
 ghost use Rattle.std.specs.Prelude.{◌≡◌, ◌+◌, ◌*◌, ◌<◌, ◌≤◌, length};
-ghost use Rattle.writing.specs.Write.{packed, replaced, header_bytes, entry_bytes};
+ghost use Rattle.image.specs.Entry.{entry_bytes};
+ghost use Rattle.writing.specs.Write.{packed, replaced, header_bytes};
 
 use image::entry::CodeEntry;
 use image::header::{Counts, ENTRY_LENGTH, HEADER_LENGTH, VERSION};
@@ -15,7 +16,7 @@ fn pack(high: u8, low: u8) -> u8
     high * 16 + low
 }
 
-// The header of version 1.
+// The header of version 1. A function, and no `From`: only an order's name is known to fit four bits.
 pub(crate) fn header_bytes(name: OrderName, counts: Counts, reader: Tag) -> [u8; HEADER_LENGTH]
     requires kind_fits { name.kind < 16 }
     requires parameters_fit { (name.parameters.p < 16) × (name.parameters.q < 16) }
@@ -36,20 +37,11 @@ pub(crate) fn header_bytes(name: OrderName, counts: Counts, reader: Tag) -> [u8;
     ]
 }
 
-// An entry: its tag, and 32 bits.
-pub(crate) fn entry_bytes(entry: CodeEntry) -> [u8; ENTRY_LENGTH]
-    ensures { result ≡ entry_bytes entry }
-{
-    let [tag_high, tag_low] = entry.tag.0.to_be_bytes();
-    let [first, second, third, fourth] = entry.bits.to_be_bytes();
-    [tag_high, tag_low, first, second, third, fourth]
-}
-
 // Writes an entry at the place of its number.
 pub(crate) fn write_entry(buffer: &mut [u8], number: usize, entry: CodeEntry)
     requires { 8 + 6 * number + 6 ≤ length buffer.old }
     ensures { buffer.new ≡ replaced buffer.old (8 + 6 * number) 6 (entry_bytes entry) }
 {
     let at = HEADER_LENGTH + ENTRY_LENGTH * number;
-    buffer[at..at + ENTRY_LENGTH].copy_from_slice(&entry_bytes(entry));
+    buffer[at..at + ENTRY_LENGTH].copy_from_slice(&<[u8; ENTRY_LENGTH]>::from(entry));
 }

@@ -1,32 +1,34 @@
-// Making a table of records, reading a record, and lending one to be rewritten.
+// Making the lines, reading one, and lending one to be rewritten.
 ghost use Rattle.std.specs.Prelude.{◌≡◌, ◌<◌, slice_index_or};
 ghost use Rattle.std.specs.Borrow.{sem, follows};
+ghost use Rattle.cache.specs.Line.{empty};
 ghost use Rattle.cache.specs.Lines.{with_record, all_alike};
 ghost use Rattle.cache.specs.contracts.lines.Lines.{the_row};
+ghost use Rattle.cache.specs.contracts.line.Line.{the_row as line_row};
 
 use super::Lines;
+use crate::line::Line;
 
-impl<T> Lines<T> {
-    // Sixty-four times one record.
-    pub(crate) fn new(record: T) -> Lines<T>
-    where
-        T: Copy,
-        ensures { result ≡ all_alike «record» }
+impl Lines {
+    pub(crate) fn new() -> Lines
+        ensures { result ≡ all_alike empty }
     {
-        Lines { all: [record; 64] }
+        Lines {
+            all: [Line { held: None }; 64],
+        }
     }
 
-    pub(crate) fn at(&self, number: usize) -> &T
+    pub(crate) fn at(&self, number: usize) -> &Line
         requires { number < 64 }
-        ensures { result.now ≡ slice_index_or self.now.all number result.now }
+        ensures { result.now ≡ slice_index_or self.now.all number empty }
     {
         &self.all[number]
     }
 
-    // The record at a number, lent to be rewritten.
-    pub(crate) fn lend(&mut self, number: usize) -> &mut T
+    // The line at a number, lent to be rewritten.
+    pub(crate) fn lend(&mut self, number: usize) -> &mut Line
         requires { number < 64 }
-        ensures* { sem 𝓛 (follows (the_row T.row) T.row self.entry.ghost_name result.ghost_name (with_record self.old number)) }
+        ensures* { sem 𝓛 (follows the_row line_row self.entry.ghost_name result.ghost_name (with_record self.old number)) }
     {
         &mut self.all[number]
     }

@@ -1,8 +1,7 @@
--- The loop over the cells: those so far are the image's.
-use Rattle.std.proofs.Common.{◌≡◌, ℕ, ◌+◌, ◌<◌, get_or}
-use Rattle.labels.specs.declared.cell.Cell.{Cell}
-use Rattle.image.specs.Layout.{header_of, cell_entry_at}
+-- The loop over the cells: those so far are the entries'.
+use Rattle.std.proofs.Common.{◌≡◌, map, take}
+use Rattle.image.specs.Entry.{entry_of_bytes, entry_cell}
 use Rattle.loading.proofs.load.copy_cells.Given as goal
 
 abbrev pub invariant-loop-i : goal.invariant-loop-i
-invariant-loop-i l = (k : ℕ) (d : Cell) → k < l.i → get_or l.cells k d ≡ cell_entry_at l.image ((header_of l.image).counts.code + k)
+invariant-loop-i l = take l.i l.cells ≡ map (λ e. entry_cell (entry_of_bytes e)) (take l.i l.entries)

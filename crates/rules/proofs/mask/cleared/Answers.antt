@@ -5,7 +5,7 @@ use Rattle.rules.specs.Cleared.{cleared}
 use Rattle.rules.proofs.Cleared.{judged_alike}
 use Rattle.rules.proofs.mask.cleared.Goals as goal
 
-pub returns-in-Some : goal.returns-in-Some
-returns-in-Some c =
-    let same : c.cleared_by.result ≡ cleared c.args.query = search rules in
-    record { answer = same; judged_alike = λ m. ap (flow m) same ∙ judged_alike m c.args.query }
+pub returns-in-Ok-clause-judged_alike : goal.returns-in-Ok-clause-judged_alike
+returns-in-Ok-clause-judged_alike c =
+    let same : c.cleared.result ≡ cleared c.args.query = search rules in
+    λ m. ap (flow m) same ∙ judged_alike m c.args.query

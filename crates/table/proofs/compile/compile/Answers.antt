@@ -12,6 +12,6 @@ returns g c =
       answer = done.answer;
       filled = done.filled;
       table_means_flow_rules = λ granted t layout rows q.
-          compile_judges m (g.O.Order.lawful c.args.order.now) c.args.rows.now c.fill_if_fitting.new.rows (sym granted ∙ done.answer) done.filled q
+          compile_judges m (g.met.O.Order.lawful c.args.order.now) c.args.rows.now c.fill_if_fitting.new.rows (sym granted ∙ done.answer) done.filled q
           ∙ ap₂ (λ l r. table_book l r q) (sym layout) (sym rows);
     }

@@ -1,19 +1,21 @@
 -- Each class fills the part of the rows that is its own.
-use Rattle.std.proofs.Common.{length, refl, ◌∙◌, arith, length-drop, length-take, rules}
-use Rattle.table.specs.Compiled.{rows_below}
+use Rattle.std.proofs.Common.{◌+◌, length, refl, ap, ◌∙◌, arith, rules}
+use Rattle.rules.proofs.Classes.{all_in_turn}
+use Rattle.table.specs.Numbering.{class_start}
+use Rattle.table.specs.Compiled.{rows_below, class_rows}
 use Rattle.table.proofs.RowCounts.{Part, part_of}
 use Rattle.table.proofs.CompiledRows.{filled_more, filled_all}
 use Rattle.table.proofs.compile.fill.Given as given
 use Rattle.table.proofs.compile.fill.Goals as goal
 
-part : (g : given.Over) (c : goal.After-start-to g) → Part c.args.layout.now.labels c.loop-class.class c.start-from.result c.start-to.result (length c.loop-class.rows)
-part g c = part_of c.args.layout.now c.loop-class.class c.start-from.result c.start-to.result (length c.loop-class.rows) c.requires.1 (omega arith) c.start-from.ensures c.start-to.ensures (c.loop-class.auto.rows ∙ c.requires.2)
-
-pub offset_bounds-rows-from : goal.offset_bounds-rows-from
-offset_bounds-rows-from g c = let p = part g c in record { fits = omega arith }
-
-pub slice_bounds-fill_class-count : goal.slice_bounds-fill_class-count
-slice_bounds-fill_class-count g c = let p = part g c in omega arith
+part : (g : given.Over) (c : goal.After-end g) → Part c.args.layout.now.labels c.loop-class.class-index c.start.result c.end.result (length c.loop-class.rows)
+part g c =
+    let here = all_in_turn _ c.loop-class.class-index c.loop-class-test.true in
+    let n = c.args.layout.now.labels in
+    part_of n c.loop-class.class-index c.start.result c.end.result (length c.loop-class.rows) (omega arith)
+    (c.start.ensures.value ∙ ap (class_start n) here)
+    (c.end.ensures ∙ ap (λ k. class_start n (k + 1)) here)
+    (c.loop-class.auto.rows ∙ c.requires)
 
 pub slice_bounds-fill_class-start : goal.slice_bounds-fill_class-start
 slice_bounds-fill_class-start g c = let p = part g c in search rules
@@ -21,22 +23,24 @@ slice_bounds-fill_class-start g c = let p = part g c in search rules
 pub slice_bounds-fill_class-end : goal.slice_bounds-fill_class-end
 slice_bounds-fill_class-end g c = let p = part g c in search rules
 
-pub fill_class-requires : goal.fill_class-requires
-fill_class-requires g c =
-    let p = part_of c.args.layout.now c.loop-class.class c.start-from.result c.start-to.result (length c.loop-class.rows) c.requires.1 (omega arith) c.start-from.ensures c.start-to.ensures (c.loop-class.auto.rows ∙ c.requires.2) in
-    (c.requires.0, omega arith, simp (length-take, length-drop) (omega arith))
-
 pub loop-class-init : goal.loop-class-init
 unfolding rows_below
 loop-class-init g c = refl
 
 pub loop-class-preserved : goal.loop-class-preserved
 loop-class-preserved g c =
-    let p = part_of c.args.layout.now c.loop-class.class c.start-from.result c.start-to.result (length c.loop-class.rows) c.requires.1 (omega arith) c.start-from.ensures c.start-to.ensures (c.loop-class.auto.rows ∙ c.requires.2) in
-    filled_more c.args.layout.now.labels (g.O.Order.meaning c.args.order.now) c.loop-class.class c.start-from.result c.start-to.result c.loop-class.rows c.fill_class.new.rows
-    p.start (omega arith) c.fill_class.ensures c.loop-class.invariant
+    let n = c.args.layout.now.labels in
+    let m = g.O.Order.meaning c.args.order.now in
+    let k = c.loop-class.class-index in
+    let here = all_in_turn _ k c.loop-class-test.true in
+    let p = part_of n k c.start.result c.end.result (length c.loop-class.rows) (omega arith)
+    (c.start.ensures.value ∙ ap (class_start n) here)
+    (c.end.ensures ∙ ap (λ k. class_start n (k + 1)) here)
+    (c.loop-class.auto.rows ∙ c.requires) in
+    filled_more n m k c.start.result c.end.result c.loop-class.rows c.fill_class.new.rows
+    p.start (omega arith) (c.fill_class.ensures ∙ ap (class_rows n m) here) c.loop-class.invariant
 
 pub returns : goal.returns
 returns g c =
-    filled_all c.args.layout.now.labels (g.O.Order.meaning c.args.order.now) c.loop-class.class c.loop-class.rows
-    (omega arith) (c.loop-class.auto.rows ∙ c.requires.2) c.loop-class.invariant
+    filled_all c.args.layout.now.labels (g.O.Order.meaning c.args.order.now) c.loop-class.class-index c.loop-class.rows
+    (omega arith) (c.loop-class.auto.rows ∙ c.requires) c.loop-class.invariant

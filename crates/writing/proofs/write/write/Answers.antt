@@ -17,7 +17,7 @@ returns g c =
     record {
       answer = call.ensures.answer;
       bytes = call.ensures.bytes;
-      loads_back = granted_loads_back m c.args.reader code cells before (g.O.Order.lawful c.args.order.now) call.result call.ensures.answer call.ensures.fits call.new.buffer call.ensures.bytes;
+      loads_back = granted_loads_back m c.args.reader code cells before (g.met.O.Order.lawful c.args.order.now) call.result call.ensures.answer call.ensures.fits call.new.buffer call.ensures.bytes;
       own_bytes =
           subst (own call.new.buffer) (sym call.ensures.answer)
           (subst (λ (xs : List ℕ). own xs (write_answer m c.args.reader code cells before)) (sym call.ensures.bytes)

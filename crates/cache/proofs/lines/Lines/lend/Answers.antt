@@ -6,4 +6,4 @@ use Rattle.cache.proofs.lines.Lines.lend.Goals as goal
 
 pub returns : goal.returns
 unfolding with_record
-returns g c = ((refl, λ w. same_lines _ _ refl), tt)
+returns g = ((refl, λ w. same_lines _ _ refl), tt)

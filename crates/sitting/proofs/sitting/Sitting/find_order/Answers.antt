@@ -16,4 +16,4 @@ passed None header read h = let same : header ≡ read = cc in ap (λ (x : Heade
 pub returns : goal.returns
 returns c =
     let image = c.args.image.now in
-    c.new.ensures ∙ passed (start_refusal (standing c.args.self.now) image) c.in_ok-header.header (header_of image) c.in_ok-header.ensures
+    c.try_from.ensures ∙ passed (start_refusal (standing c.args.self.now) image) c.in_ok-header.header (header_of image) c.in_ok-header.ensures

@@ -1,2 +1,0 @@
--- The lemmas that this crate's proofs share.
-pub mod FrameLists
