@@ -72,14 +72,28 @@ impl EngineChoice {
         session: &mut Session,
     ) -> (W::Answer, Counts) {
         if let EngineChoice::Table | EngineChoice::CachedTable = self {
-            let mut rows = [0; MOST_ROWS];
-            if let Some(table) = table_in(&order, &mut rows) {
-                return self.perform_over(work, &order, table, session);
-            }
+            return self.perform_over_table(work, order, session);
         }
         self.perform_over(work, &order, FlowEngine::new(order), session)
     }
 
+    // Over a table, where the order has few enough labels. Not compiled inline, so that the rows are made for a table alone.
+    #[inline(never)]
+    fn perform_over_table<O: Order + Copy, W: Work>(
+        self,
+        work: W,
+        order: O,
+        session: &mut Session,
+    ) -> (W::Answer, Counts) {
+        let mut rows = [0; MOST_ROWS];
+        match table_in(&order, &mut rows) {
+            Some(table) => self.perform_over(work, &order, table, session),
+            None => self.perform_over(work, &order, FlowEngine::new(order), session),
+        }
+    }
+
+    // Compiled inline at all three places, so that what a work leaves unread is not written.
+    #[inline(always)]
     fn perform_over<O: Order, E: Engine + Drop, W: Work>(
         self,
         work: W,

@@ -15,8 +15,10 @@ mod transcript;
 use calls::Calls;
 use engines::EngineChoice;
 use labels::cell::{Cell, Tag, Word};
+use orders::named::NamedOrder;
 use script::Script;
 use session::{CELLS, OUTPUT_PLACES, Session};
+use sitting::sitting::Sitting;
 use timing::{open_many, run_and_page};
 use transcript::Transcript;
 
@@ -47,20 +49,47 @@ fn run_case(mut script: Script, transcript: &mut Transcript) -> Option<()> {
     let cell_count = script.short()? as usize;
     let place_count = script.short()? as usize;
     let choice = EngineChoice::from(script.byte()?);
+    if cell_count > CELLS || place_count > OUTPUT_PLACES {
+        return None;
+    }
+    match Sitting::new().find_order(image) {
+        Ok(order) => make_calls(
+            script,
+            transcript,
+            choice,
+            order,
+            image,
+            cell_count,
+            place_count,
+        ),
+        Err(refusal) => {
+            transcript.write_refusal(refusal);
+            Some(())
+        }
+    }
+}
+
+// The calls in the order of the case, in memory of its own. Not compiled inline, so that no memory is made for a case that
+// comes to no call.
+#[inline(never)]
+fn make_calls(
+    script: Script,
+    transcript: &mut Transcript,
+    choice: EngineChoice,
+    order: NamedOrder,
+    image: &[u8],
+    cell_count: usize,
+    place_count: usize,
+) -> Option<()> {
     let mut cells = [UNTOUCHED; CELLS];
     let mut outputs = [UNTOUCHED; OUTPUT_PLACES];
     let cells = cells.get_mut(..cell_count)?;
     let outputs = outputs.get_mut(..place_count)?;
     let mut session = Session::new(image, cells, outputs);
-    match session.find_order() {
-        Ok(order) => {
-            transcript.write_byte(ORDER_FOUND);
-            let calls = Calls { script, transcript };
-            let ((), counts) = choice.perform(calls, order, &mut session);
-            transcript.write_end(&session, counts);
-        }
-        Err(refusal) => transcript.write_refusal(refusal),
-    }
+    transcript.write_byte(ORDER_FOUND);
+    let calls = Calls { script, transcript };
+    let ((), counts) = choice.perform(calls, order, &mut session);
+    transcript.write_end(&session, counts);
     Some(())
 }
 

@@ -6,7 +6,6 @@ use image::header::CELL_LIMIT;
 use labels::cell::Cell;
 use labels::order::Order;
 use labels::refusal::Refusal;
-use orders::named::NamedOrder;
 use rules::engine::Engine;
 use sitting::sitting::Sitting;
 use viewing::page::Page;
@@ -39,11 +38,6 @@ impl<'i, 'm> Session<'i, 'm> {
             cells,
             outputs,
         }
-    }
-
-    // The order that the image names.
-    pub(crate) fn find_order(&self) -> Result<NamedOrder, Refusal> {
-        self.sitting.find_order(self.image)
     }
 
     pub(crate) fn open<O: Order>(&mut self, order: &O) -> Result<(), Refusal> {

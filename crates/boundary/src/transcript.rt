@@ -35,11 +35,21 @@ impl<'t> Transcript<'t> {
 
     // Bytes for which there is no room are cut off.
     pub(crate) fn write_bytes(&mut self, bytes: &[u8]) {
-        let _ = self.unwritten.write(bytes);
+        if !self.unwritten.is_empty() {
+            let _ = self.unwritten.write(bytes);
+        }
+    }
+
+    // The same of an array: its length is known, and so it is copied without a call.
+    fn write_array<const N: usize>(&mut self, bytes: [u8; N]) {
+        match self.unwritten.split_off_mut(..N) {
+            Some(front) => front.copy_from_slice(&bytes),
+            None => self.write_bytes(&bytes),
+        }
     }
 
     pub(crate) fn write_byte(&mut self, byte: u8) {
-        self.write_bytes(&[byte]);
+        self.write_array([byte]);
     }
 
     pub(crate) fn write_answer(&mut self, answer: Answer) {
@@ -47,11 +57,11 @@ impl<'t> Transcript<'t> {
     }
 
     pub(crate) fn write_short(&mut self, number: u16) {
-        self.write_bytes(&number.to_be_bytes());
+        self.write_array(number.to_be_bytes());
     }
 
     pub(crate) fn write_word(&mut self, number: u32) {
-        self.write_bytes(&number.to_be_bytes());
+        self.write_array(number.to_be_bytes());
     }
 
     pub(crate) fn write_cell(&mut self, cell: Cell) {
@@ -61,6 +71,9 @@ impl<'t> Transcript<'t> {
 
     pub(crate) fn write_cells(&mut self, cells: &[Cell]) {
         for cell in cells {
+            if self.unwritten.is_empty() {
+                return;
+            }
             self.write_cell(*cell);
         }
     }

@@ -17,7 +17,6 @@ use screen::screen::{Screen, cells_wanted, output_places, zero_cells};
 use screen::session::{BUDGET, Report};
 use std::alloc::{AllocError, Global};
 use std::{env, fs};
-use viewing::lent::LentMemory;
 
 // What one side is examined in, on the heap.
 #[derive(Drop)]
@@ -35,16 +34,6 @@ impl Memory {
             outputs: output_places(heap)?,
             page: output_places(heap)?,
         })
-    }
-
-    // All of it, lent together with the image.
-    fn lend<'i, 'm>(&'m mut self, image: &'i [u8]) -> LentMemory<'i, 'm> {
-        LentMemory {
-            image,
-            cells: self.cells.as_mut_slice(),
-            outputs: self.outputs.as_mut_slice(),
-            page: self.page.as_mut_slice(),
-        }
     }
 }
 
@@ -100,8 +89,14 @@ fn compare_in<O: Order + Copy>(
     } = examine_with_caches(
         order,
         BUDGET,
-        &mut left_memory.lend(left),
-        &mut right_memory.lend(right),
+        left,
+        left_memory.cells.as_mut_slice(),
+        left_memory.outputs.as_mut_slice(),
+        left_memory.page.as_mut_slice(),
+        right,
+        right_memory.cells.as_mut_slice(),
+        right_memory.outputs.as_mut_slice(),
+        right_memory.page.as_mut_slice(),
     );
     let Examined {
         left: left_seen,

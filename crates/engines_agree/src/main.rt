@@ -17,11 +17,15 @@ use rules::engine::Engine;
 use rules::flow::judge;
 use rules::flow_engine::FlowEngine;
 use rules::query::Query;
+use std::io;
 use table::compile::compile;
 use table::table::{Table, row_count};
 
 // Classes 0 to 15, and each of the six tags one of four.
 const QUERIES: u32 = 16 * 4096;
+
+// How many rows the greatest table has.
+const MOST_ROWS: usize = 14_056;
 
 // The query of a number, most significant first: the class and then the tags.
 fn query(number: u32, tags: &[Tag; 4]) -> Query {
@@ -36,14 +40,18 @@ fn query(number: u32, tags: &[Tag; 4]) -> Query {
     }
 }
 
-// Asks each query twice, so that a cache can hit, and counts the answers that are not the flow rules'.
-fn differences<O: Order, E: Engine>(order: &O, engine: &mut E, tags: &[Tag; 4]) -> usize {
-    let mut count = 0;
+// Asks each query twice, so that a cache can hit, and counts the answers that are not the flow rules'. Both are asked at one
+// place in the code, where an engine's call is compiled inline.
+fn differences<O: Order, E: Engine>(order: &O, engine: &mut E, tags: &[Tag; 4]) -> u32 {
+    let mut count = 0u32;
     for number in 0..QUERIES {
         let query = query(number, tags);
         let expected = judge(order, &query);
-        let answers = [engine.ask(query), engine.ask(query)];
-        count += answers.iter().filter(|answer| **answer != expected).count();
+        for _ in 0..2 {
+            if engine.ask(query) != expected {
+                count = count.wrapping_add(1);
+            }
+        }
     }
     count
 }
@@ -75,17 +83,29 @@ fn twice_cached<O: Order>(order: O) -> RuleCache<RuleCache<FlowEngine<O>>>
     RuleCache::new(flow_cache(order))
 }
 
-// Compares the engines over an order of at most 8 labels; of any other it prints nothing.
-fn report<O: Order + Copy>(rt: &HostRuntime, order: O) -> anyhow::Result<()> {
+// Compares the engines over an order of at most 8 labels; of any other it prints nothing. The rows are lent, so that no order
+// is left out for want of memory.
+fn report<O: Order + Copy>(rt: &HostRuntime, order: O, rows: &mut [u32]) -> io::Result<()> {
     let bound = order.bound();
     if !(1..=8).contains(&bound) {
         return Ok(());
     }
     let labels = bound as u8;
-    let mut rows = vec![in rt.alloc(); 0u32; row_count(labels)?]?;
-    compile(&order, rows.as_mut_slice())?;
-    let mut table = Table::new(labels, rows.as_slice())?;
-    let below = Table::new(labels, rows.as_slice())?;
+    let Ok(count) = row_count(labels) else {
+        return rt.println("no row count");
+    };
+    let Some(rows) = rows.get_mut(..count) else {
+        return rt.println("too few rows");
+    };
+    let Ok(()) = compile(&order, rows) else {
+        return rt.println("compiling refused");
+    };
+    let Ok(mut table) = Table::new(labels, rows) else {
+        return rt.println("table refused");
+    };
+    let Ok(below) = Table::new(labels, rows) else {
+        return rt.println("table refused");
+    };
     let tags = [Tag(0), Tag(1), Tag(labels as u16 - 1), Tag(labels as u16)];
     let mut cached = flow_cache(order);
     let by_flow = differences(&order, &mut FlowEngine::new(order), &tags);
@@ -101,12 +121,12 @@ fn report<O: Order + Copy>(rt: &HostRuntime, order: O) -> anyhow::Result<()> {
         "order {kind} {} {}: {grants} grants, causes {one} {two} {three} {four}, cache hits {} misses {}",
         own.p, own.q, counts.hits, counts.misses
     )?;
-    println!(rt; "differences: {by_flow} {by_table} {by_cache} {by_cached_table} {by_two_caches}")?;
-    Ok(())
+    println!(rt; "differences: {by_flow} {by_table} {by_cache} {by_cached_table} {by_two_caches}")
 }
 
 // Compares the engines over the order of each name: twelve bits, the kind first.
-fn run(rt: &HostRuntime) -> anyhow::Result<()> {
+fn run(rt: &HostRuntime) -> io::Result<()> {
+    let mut rows = [0u32; MOST_ROWS];
     for bits in 0..4096u16 {
         let name = OrderName {
             kind: (bits / 256) as u8,
@@ -117,15 +137,15 @@ fn run(rt: &HostRuntime) -> anyhow::Result<()> {
         };
         // An arm for each make of order, since no closure is generic in a type.
         match NamedOrder::try_from(name) {
-            Ok(NamedOrder::TwoPoint(order)) => report(rt, order)?,
-            Ok(NamedOrder::BarredSets(order)) => report(rt, order)?,
-            Ok(NamedOrder::Clearances(order)) => report(rt, order)?,
+            Ok(NamedOrder::TwoPoint(order)) => report(rt, order, &mut rows)?,
+            Ok(NamedOrder::BarredSets(order)) => report(rt, order, &mut rows)?,
+            Ok(NamedOrder::Clearances(order)) => report(rt, order, &mut rows)?,
             Err(_) => {}
         }
     }
     Ok(())
 }
 
-fn main(rt: HostRuntime) -> anyhow::Result<()> {
+fn main(rt: HostRuntime) -> io::Result<()> {
     run(&rt)
 }

@@ -35,12 +35,15 @@ pub record SideDone : Type 0 where
 abbrev pub side_done : Result Page Refusal → Standing → List Cell → List Cell → List Cell → SideDone
 side_done r s cells outputs page = record { answered = r; sitting = s; cells = cells; outputs = outputs; page = page }
 
+abbrev pub side_of : SideSeen → List Cell → List Cell → List Cell → SideDone
+side_of seen cells outputs page = side_done seen.page (standing seen.sitting) cells outputs page
+
 -- the same of what lent memory then holds
 abbrev pub side_with : Result Page Refusal → Standing → LentMemory → SideDone
 side_with r s lent = side_done r s lent.cells.now lent.outputs.now lent.page.now
 
-abbrev pub side_of : SideSeen → LentMemory → SideDone
-side_of seen lent = side_with seen.page (standing seen.sitting) lent
+abbrev pub side_in : SideSeen → LentMemory → SideDone
+side_in seen lent = side_with seen.page (standing seen.sitting) lent
 
 -- After a granted run the sitting is paged; a refused run is the answer, and the page list stays.
 abbrev pub paged_after : Result ℕ Refusal → Meaning → List ℕ → List Cell → RunDone → SideDone

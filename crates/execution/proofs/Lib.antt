@@ -4,3 +4,4 @@ pub mod Steps
 pub mod RunsByBook
 pub mod RunLoop
 pub mod RunLaws
+pub mod Questions

@@ -11,7 +11,11 @@ use labels::cell::{Cell, Tag, Word};
 use labels::order::{Order, has_name};
 use labels::refusal::Refusal;
 
+// How many entries are tested at a time.
+const BLOCK: usize = 64;
+
 // Checks an image of any bytes, copies its cells and answers its header, or answers the first refusal and changes nothing.
+#[inline(always)]
 pub fn load<O: Order>(order: &O, image: &[u8], cells: &mut [Cell]) -> Result<Header, Refusal>
     ensures answer { result ≡ load_answer (O.meaning order.now) image.now cells.old }
     ensures code_behind_header { IfOk result (λ h. 6 * h.counts.code ≤ length image.now - 8) }
@@ -25,6 +29,7 @@ pub fn load<O: Order>(order: &O, image: &[u8], cells: &mut [Cell]) -> Result<Hea
 }
 
 // The checks in their order.
+#[inline(always)]
 fn check<O: Order>(order: &O, image: &[u8], cells: usize) -> Result<Header, Refusal>
     ensures answer { result ≡ answer (load_refusal (O.meaning order.now) image.now cells) (header_of image.now) }
     ensures counted { IfOk result (λ h. (length image.now ≡ length_of_image h.counts) × (cells ≡ h.counts.cells)) }
@@ -67,6 +72,9 @@ fn entries_from(image: &[u8], at: usize) -> &[[u8; ENTRY_LENGTH]]
 }
 
 // Refused unless every entry's tag is a label; the first that is none by its place, where so many entries lie before these.
+// They are tested a block at a time: to stop at each would be slower, and to test all first would cost a refused image as much
+// as a granted one.
+#[inline(always)]
 pub fn check_entries<O: Order, E: Copy + Into<CodeEntry>>(
     order: &O,
     entries: &[E],
@@ -75,7 +83,25 @@ pub fn check_entries<O: Order, E: Copy + Into<CodeEntry>>(
     requires { before + length entries.now < 2 ^ 16 }
     ensures { EntriesChecked E.converts (O.meaning order.now) before entries.now result }
 {
-    if all_labelled(order, entries) {
+    let mut so_far = before;
+    for block in entries.chunks(BLOCK) {
+        check_block(order, block, so_far)?;
+        so_far += block.len();
+    }
+    Ok(())
+}
+
+// The same of one block. In a whole one the first tag that is no label is looked for only where there is one; a shorter one
+// is not worth two ways.
+fn check_block<O: Order, E: Copy + Into<CodeEntry>>(
+    order: &O,
+    entries: &[E],
+    before: usize,
+) -> Result<(), Refusal>
+    requires { before + length entries.now < 2 ^ 16 }
+    ensures { EntriesChecked E.converts (O.meaning order.now) before entries.now result }
+{
+    if entries.len() == BLOCK && all_labelled(order, entries) {
         return Ok(());
     }
     for (i, entry) in entries.iter().enumerate() {
@@ -85,7 +111,8 @@ pub fn check_entries<O: Order, E: Copy + Into<CodeEntry>>(
     Ok(())
 }
 
-// Whether every entry's tag is a label. All are tested, with no branch: that is faster than to stop at the first that is none.
+// Whether every entry's tag is a label. All of a block are tested, with no branch: that is faster than to stop at the first
+// that is none.
 fn all_labelled<O: Order, E: Copy + Into<CodeEntry>>(order: &O, entries: &[E]) -> bool
     ensures { AllLabelled E.converts (O.meaning order.now) entries.now result }
 {

@@ -1,6 +1,9 @@
-// The frames of calls that have not returned.
-use arrayvec::ArrayVec;
+// The frames of calls that have not returned, at most 32.
+ghost use Rattle.std.specs.Prelude.{◌≡◌, ◌≤◌, reverse, length, take};
+
 use labels::cell::Tag;
+
+pub mod stack;
 
 // Where to return to, and the pc tag to return with.
 #[derive(Clone, Copy, Default)]
@@ -9,5 +12,12 @@ pub struct Frame {
     pub tag: Tag,
 }
 
-// At most 32, the latest last.
-pub(crate) type Frames = ArrayVec<Frame, 32>;
+// The first slots hold the frames, the latest last. An array with its length beside it: an `ArrayVec` cannot be copied, and
+// a machine can.
+#[derive(Clone, Copy)]
+pub struct Frames {
+    slots: [Frame; 32],
+    depth: usize,
+    ghost depth_fits: { depth ≤ 32 },
+    ghost depth_counts: { length (reverse (take depth slots)) ≡ depth },
+}

@@ -7,7 +7,7 @@ use labels::cell::{Cell, Tag};
 
 // Contracts see a machine by `held`. It has no impl Model: a sitting that refuses a call promises that its whole machine
 // stays, and under a model it could promise that only of what is held.
-#[derive(Clone, Drop)]
+#[derive(Clone, Copy)]
 pub struct Machine {
     pub(crate) registers: [Cell; 16],
     pub(crate) pc: u32,

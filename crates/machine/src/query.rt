@@ -35,9 +35,9 @@ impl Machine {
                 let cell = cells.get(address).ok_or(Fault::NoSuchCell)?;
                 Ok(cell.tag)
             }
-            Class::Call if self.frames.is_full() => Err(Fault::FramesFull),
+            Class::Call if !self.frames.has_room() => Err(Fault::FramesFull),
             Class::Ret => {
-                let latest = self.frames.as_slice().last().ok_or(Fault::NoFrame)?;
+                let latest = self.frames.latest().ok_or(Fault::NoFrame)?;
                 Ok(latest.tag)
             }
             Class::Out if self.outputs >= outputs.len() => Err(Fault::OutputsFull),

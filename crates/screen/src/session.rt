@@ -2,19 +2,17 @@
 ghost use Rattle.std.specs.Prelude.{◌≡◌};
 ghost use Rattle.orders.specs.Named.{meaning_of};
 ghost use Rattle.sitting.specs.Sitting.{standing};
-ghost use Rattle.viewing.specs.Lent.{SameLoans};
 ghost use Rattle.screen.specs.Screen.{report_of, report_with, session, session_in, image_session};
 
 use cache::flow_cache::flow_cache;
 use cache::rule_cache::Counts;
-use examiner::side::open_run_page;
 use labels::cell::Cell;
 use labels::order::Order;
 use labels::refusal::Refusal;
 use orders::named::NamedOrder;
 use sitting::sitting::{Sitting, State};
-use viewing::lent::LentMemory;
 use viewing::page::Page;
+use viewing::paging;
 
 // How many steps a program is given.
 pub const BUDGET: u32 = 100_000;
@@ -56,13 +54,7 @@ pub(crate) fn show_image(
     ensures { session (report_with result page.new) (standing sitting.new) ≡ image_session (standing sitting.old) image.now cells.old outputs.old page.old }
 {
     let order = sitting.find_order(image)?;
-    let mut lent = LentMemory {
-        image,
-        cells,
-        outputs,
-        page,
-    };
-    show_in(order, BUDGET, sitting, &mut lent)
+    show_in(order, BUDGET, sitting, image, cells, outputs, page)
 }
 
 // The same in an order of some kind. An arm for each make: a trait's method would need ghost members for what each call
@@ -71,15 +63,23 @@ fn show_in(
     order: NamedOrder,
     budget: u32,
     sitting: &mut Sitting,
-    lent: &mut LentMemory,
+    image: &[u8],
+    cells: &mut [Cell],
+    outputs: &mut [Cell],
+    page: &mut [Cell],
 ) -> Result<Report, Refusal>
-    ensures same_loans { SameLoans lent.old lent.new }
-    ensures shown { session (report_with result lent.new.page.now) (standing sitting.new) ≡ session_in (meaning_of order) budget (standing sitting.old) lent.old.image.now lent.old.cells.now lent.old.outputs.now lent.old.page.now }
+    ensures { session (report_with result page.new) (standing sitting.new) ≡ session_in (meaning_of order) budget (standing sitting.old) image.now cells.old outputs.old page.old }
 {
     match order {
-        NamedOrder::TwoPoint(order) => show_sitting(order, budget, sitting, lent),
-        NamedOrder::BarredSets(order) => show_sitting(order, budget, sitting, lent),
-        NamedOrder::Clearances(order) => show_sitting(order, budget, sitting, lent),
+        NamedOrder::TwoPoint(order) => show_sitting(
+            order, budget, sitting, image, cells, outputs, page,
+        ),
+        NamedOrder::BarredSets(order) => show_sitting(
+            order, budget, sitting, image, cells, outputs, page,
+        ),
+        NamedOrder::Clearances(order) => show_sitting(
+            order, budget, sitting, image, cells, outputs, page,
+        ),
     }
 }
 
@@ -88,12 +88,16 @@ fn show_sitting<O: Order + Copy>(
     order: O,
     budget: u32,
     sitting: &mut Sitting,
-    lent: &mut LentMemory,
+    image: &[u8],
+    cells: &mut [Cell],
+    outputs: &mut [Cell],
+    page: &mut [Cell],
 ) -> Result<Report, Refusal>
-    ensures same_loans { SameLoans lent.old lent.new }
-    ensures shown { session (report_with result lent.new.page.now) (standing sitting.new) ≡ session_in (O.meaning order) budget (standing sitting.old) lent.old.image.now lent.old.cells.now lent.old.outputs.now lent.old.page.now }
+    ensures { session (report_with result page.new) (standing sitting.new) ≡ session_in (O.meaning order) budget (standing sitting.old) image.now cells.old outputs.old page.old }
 {
+    sitting.open(&order, image, cells, outputs)?;
     let mut cache = flow_cache(order);
-    let page = open_run_page(sitting, &order, &mut cache, budget, lent)?;
+    sitting.run(&mut cache, budget, image, cells, outputs)?;
+    let page = paging::page(sitting, &order, image, cells, outputs, page)?;
     Ok(Report::new(sitting, page, cache.counts()))
 }

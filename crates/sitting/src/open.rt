@@ -12,7 +12,9 @@ use machine::machine::Machine;
 
 impl Sitting {
     // Opens an image of any bytes in an order: copies its cells, remembers its header and the lengths, and stands running
-    // at the machine's start; or answers the first refusal and changes nothing.
+    // at the machine's start; or answers the first refusal and changes nothing. Compiled inline, so that a sitting which is not
+    // used any more is not written.
+    #[inline(always)]
     pub fn open<O: Order>(
         &mut self,
         order: &O,

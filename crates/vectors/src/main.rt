@@ -9,15 +9,33 @@ use screen::screen::Screen;
 use std::alloc::Global;
 use std::io::{BufRead, BufReader};
 
-// Adds the bytes of a word.
+// How many bytes are decoded at a time.
+const PART: usize = 32;
+
+// Adds the bytes that pairs of hexadecimal digits stand for; capital letters are no digits here. Part by part, so that no
+// memory is asked for behind a digit that is none.
+fn push_hex(image: &mut Vec<u8>, digits: &str) -> anyhow::Result<()> {
+    let (pairs, half) = digits.as_bytes().split_at(digits.len() / 2 * 2);
+    let mut bytes = [0; PART];
+    for part in pairs.chunks(2 * PART) {
+        let bytes = &mut bytes[..PART.min(part.len() / 2)];
+        let capital = part.iter().any(u8::is_ascii_uppercase);
+        if capital || hex::decode_to_slice(part, bytes).is_err() {
+            bail!("not a hexadecimal digit");
+        }
+        image.extend_from_slice(bytes)?;
+    }
+    if !half.is_empty() {
+        bail!("half a byte");
+    }
+    Ok(())
+}
+
+// Adds the bytes of a word, as often as it says.
 fn push_word(image: &mut Vec<u8>, word: &str) -> anyhow::Result<()> {
     let (digits, times) = word.split_once('*').unwrap_or((word, "1"));
-    if digits.bytes().any(|digit| digit.is_ascii_uppercase()) {
-        bail!("a capital digit");
-    }
-    let bytes = hex::decode(*image.allocator(), digits)?;
     for _ in 0..times.parse::<u16>()? {
-        image.extend_from_slice(bytes.as_slice())?;
+        push_hex(image, digits)?;
     }
     Ok(())
 }

@@ -12,39 +12,10 @@ use Rattle.image.specs.Entry.{cell_entry}
 use Rattle.image.specs.declared.header.Header.{Header}
 use Rattle.image.specs.Layout.{header_of, counts_fit, length_of_image}
 use Rattle.image.specs.Load.{check, answer, EntriesChecked, tags_of, check_labels, entry_tags, load_refusal}
-
-pub passed : (b : Bool) (refusal : Refusal) (next : Option Refusal) → check b refusal next ≡ None → (b ≡ true) × (next ≡ None)
-passed true refusal next e = (refl, e)
-passed false refusal next e = (cc, cc)
+use Rattle.image.proofs.TagChecks.{passed, refused_before, passed_before, was_refused, was_passed}
 
 pub passes : (b : Bool) (refusal : Refusal) (next : Option Refusal) → b ≡ true → next ≡ None → check b refusal next ≡ None
 passes b refusal next holds none = cond-true b next (Some refusal) holds ∙ none
-
--- the check of tags behind others
-module _ (label : Tag → Bool) where
-  refused_before : (refusal : Refusal) (place : ℕ) (ts us : List Tag) → check_labels label place ts ≡ Some refusal → check_labels label place (ts ++ us) ≡ Some refusal
-  refused_before refusal place [] us e = cc
-  refused_before refusal place (t ∷ ts) us e = go (label t) (refused_before refusal (place + 1) ts us) e
-    where
-      go : (b : Bool) → (check_labels label (place + 1) ts ≡ Some refusal → check_labels label (place + 1) (ts ++ us) ≡ Some refusal)
-          → cond b (check_labels label (place + 1) ts) (Some (NotALabel place)) ≡ Some refusal → cond b (check_labels label (place + 1) (ts ++ us)) (Some (NotALabel place)) ≡ Some refusal
-      go true rest e = rest e
-      go false rest e = e
-
-  passed_before : (place : ℕ) (ts us : List Tag) → check_labels label place ts ≡ None → check_labels label place (ts ++ us) ≡ check_labels label (place + length ts) us
-  passed_before place [] us e = ap (λ (p : ℕ). check_labels label p us) (omega arith)
-  passed_before place (t ∷ ts) us e =
-      let p = passed (label t) (NotALabel place) (check_labels label (place + 1) ts) e in
-      let next : place + 1 + length ts ≡ place + length (t ∷ ts) = omega arith in
-      cond-true (label t) _ _ p.0 ∙ passed_before (place + 1) ts us p.1 ∙ ap (λ (k : ℕ). check_labels label k us) next
-
-was_refused : (o : Option Refusal) (refusal : Refusal) → Err refusal ≡ answer {A = Unit {0}} o tt → o ≡ Some refusal
-was_refused None refusal e = cc
-was_refused (Some other) refusal e = cc
-
-was_passed : (o : Option Refusal) → Ok tt ≡ answer {A = Unit {0}} o tt → o ≡ None
-was_passed None e = refl
-was_passed (Some other) e = cc
 
 -- checks of the code and then of the cells are those of the tags of both
 module _ (m : Meaning) (code : List CodeEntry) (cells : List Cell) where

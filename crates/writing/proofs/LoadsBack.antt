@@ -15,7 +15,8 @@ use Rattle.image.specs.Load.{check_labels, tags_of, entry_tags}
 use Rattle.image.specs.Entry.{cell_entry, entry_bytes}
 use Rattle.writing.specs.Write.{counts_of, write_refusal, header_bytes, entries, written_image, EntriesFit}
 use Rattle.writing.specs.RoundTrip.{LoadsBack}
-use Rattle.writing.proofs.Checks.{passed, Loadable, loads}
+use Rattle.writing.proofs.Checks.{Loadable, loads}
+use Rattle.image.proofs.TagChecks.{passed}
 use Rattle.writing.proofs.Entries.{entries_length}
 use Rattle.writing.proofs.Numerals.{two_bytes}
 use Rattle.writing.proofs.Reading.{joined_length, entry_read}

@@ -3,7 +3,7 @@ use Rattle.std.proofs.Common.{◌≡◌, subst}
 use Rattle.sitting.specs.Sitting.{Standing, standing}
 use Rattle.examiner.specs.Examined.{memory_of, side_with, examined_by, ExaminedFrom}
 use Rattle.examiner.proofs.ExaminedSides.{examined_is_history}
-use Rattle.examiner.proofs.side.examine_side.Goals as goal
+use Rattle.examiner.proofs.side.examine_lent.Goals as goal
 
 pub returns-clause-examined : goal.returns-clause-examined
 returns-clause-examined g c =

@@ -1,0 +1,2 @@
+-- The lemmas that this crate's proofs share.
+pub mod FrameLists
