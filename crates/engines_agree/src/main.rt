@@ -47,9 +47,9 @@ fn differences<O: Order, E: Engine>(order: &O, engine: &mut E, tags: &[Tag; 4]) 
     for number in 0..QUERIES {
         let query = query(number, tags);
         let expected = judge(order, &query);
-        for _ in 0..2 {
+        for _ in 0..2u32 {
             if engine.ask(query) != expected {
-                count = count.wrapping_add(1);
+                count += 1;
             }
         }
     }

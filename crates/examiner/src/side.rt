@@ -58,8 +58,9 @@ pub(crate) fn examine_lent<O: Order, E: Engine>(
     SideSeen { sitting, page }
 }
 
-// Opens, runs and pages a sitting, up to the first refusal.
-fn open_run_page<O: Order, E: Engine>(
+// Opens, runs and pages a sitting in lent memory, up to the first refusal. These are three calls: the refused one changes
+// nothing, and what the granted ones before it did stands.
+pub fn open_run_page<O: Order, E: Engine>(
     sitting: &mut Sitting,
     order: &O,
     engine: &mut E,

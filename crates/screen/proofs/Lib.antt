@@ -1,2 +1,2 @@
 -- The lemmas that this crate's proofs share.
-mod Sessions
+pub mod Sessions

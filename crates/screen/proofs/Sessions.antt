@@ -9,16 +9,21 @@ use Rattle.rules.specs.Flow.{flow}
 use Rattle.cache.specs.declared.rule_cache.Counts.{Counts}
 use Rattle.viewing.specs.declared.page.Page.{Page}
 use Rattle.sitting.specs.Sitting.{Standing}
-use Rattle.sitting.specs.Open.{after_call, opened}
+use Rattle.sitting.specs.Open.{after_call, Opened, opened}
 use Rattle.sitting.specs.Run.{RunDone, sitting_run_by}
 use Rattle.observer.specs.Visible.{written_over}
 use Rattle.viewing.specs.Page.{reader_of, visible_outputs, has_end_mark, page_refusal, page_answer, page_written}
+use Rattle.examiner.specs.Examined.{memory, SideDone, paged_after, examined_unless, examined_by}
 use Rattle.screen.specs.Screen.{Shown, shown_of, Session, session, and_then, paged, run_and_paged, session_in, report_of, report_shown}
 
 -- what a page shows with its list
 abbrev pub page_shown : Standing → Counts → Result Page Refusal → List Cell → Result Shown Refusal
 page_shown s counts (Ok p) list = Ok (report_shown (report_of s p counts) list)
 page_shown s counts (Err refusal) list = Err refusal
+
+-- and what the calls on a sitting show, made in one
+abbrev pub side_shown : Counts → SideDone → Session
+side_shown counts d = session (page_shown d.sitting counts d.answered d.page) d.sitting
 
 module _ (m : Meaning) (budget : ℕ) (image : List ℕ) (page : List Cell) where
   -- The page's answer and its list are what is shown.
@@ -69,3 +74,26 @@ module _ (m : Meaning) (budget : ℕ) (image : List ℕ) (page : List Cell) wher
       paged_after_run n counts r list h is written =
           ap (λ x. session x done.sitting) (shown_is_paged done.sitting done.cells done.outputs counts r list is written)
           ∙ from_run (Ok n) h
+
+-- The calls in one, by the flow rules, come to the session.
+module _ (m : Meaning) (budget : ℕ) (image : List ℕ) (page : List Cell) (counts : Counts) (cells outputs : List Cell) (s : Standing) where
+  abbrev o : Opened
+  o = opened m s image cells (length outputs)
+
+  abbrev done : RunDone
+  done = sitting_run_by (flow m) o.sitting image o.cells outputs budget
+
+  abbrev paged_then : Session
+  paged_then = session (paged m done.sitting image done.cells done.outputs page) done.sitting
+
+  by_run : (r : Result ℕ Refusal) → side_shown counts (paged_after r m image page done) ≡ and_then r done.sitting paged_then
+  by_run (Ok n) = ap (λ x. session x done.sitting) (shown_is_paged m budget image page done.sitting done.cells done.outputs counts _ _ refl refl)
+  by_run (Err refusal) = refl
+
+  by_open : (r : Result (Unit {0}) Refusal) → side_shown counts (examined_unless r (flow m) m o (memory image cells outputs) page budget) ≡ and_then r o.sitting (and_then done.answered done.sitting paged_then)
+  by_open (Ok u) = by_run done.answered
+  by_open (Err refusal) = refl
+
+  pub examined_is_session : side_shown counts (examined_by (flow m) m s (memory image cells outputs) page budget) ≡ session_in m budget s image cells outputs page
+  unfolding session_in
+  examined_is_session = by_open o.answered
