@@ -1,4 +1,4 @@
--- What is shown where a call of a session is refused, and where all are granted.
+-- What is shown where a call of a session is refused, and where all are granted; and that the three calls in one come to it.
 use Rattle.std.proofs.Common.{◌≡◌, ℕ, Bool, List, length, Some, None, Ok, Err, Option, Result, sym, refl, ap, ◌∙◌}
 use Rattle.std.proofs.lemmas.List.{take_at}
 use Rattle.labels.specs.Order.{Meaning}

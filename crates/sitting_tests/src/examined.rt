@@ -1,9 +1,8 @@
 // A sitting that is opened, run and paged in one call: granted, refused at the open, and refused at the page.
+use crate::shared::{marked, order};
 use examiner::side::open_run_page;
 use labels::cell::{Cell, Tag, Word};
-use labels::name::Parameters;
 use labels::refusal::Refusal;
-use orders::two_point::TwoPoint;
 use rules::flow_engine::FlowEngine;
 use sitting::sitting::{Sitting, State};
 use std::test::Fail;
@@ -15,11 +14,6 @@ const IMAGE: [u8; 32] = [
     0x11, 0, 0, 3, 0, 1, 0, 0, 0, 0, 0x11, 0, 0, 5, 0, 0, 0xb0, 0x10, 0, 0, 0, 0, 0xd0, 0, 0, 0, 0,
     1, 0, 0, 0, 42,
 ];
-
-const MARK: Cell = Cell {
-    word: Word(99),
-    tag: Tag(0),
-};
 
 const SECRET: Cell = Cell {
     word: Word(42),
@@ -42,10 +36,14 @@ struct Lists {
 impl Lists {
     fn new() -> Lists {
         Lists {
-            cells: [MARK],
-            outputs: [MARK],
-            page: [MARK],
+            cells: [marked()],
+            outputs: [marked()],
+            page: [marked()],
         }
+    }
+
+    fn unchanged(&self) -> bool {
+        self.cells[0] == marked() && self.outputs[0] == marked() && self.page[0] == marked()
     }
 
     // Opens, runs and pages a sitting in them, with a budget of ten steps and so many places of the page list. The image is a
@@ -56,9 +54,7 @@ impl Lists {
         image: &[u8],
         places: usize,
     ) -> Result<Result<Page, Refusal>, Fail> {
-        let Ok(order) = TwoPoint::new(Parameters { p: 0, q: 0 }) else {
-            return Err(Fail::new("the two-point order takes these parameters"));
-        };
+        let order = order()?;
         let Some(page) = self.page.get_mut(..places) else {
             return Err(Fail::new("the page list has one place"));
         };
@@ -92,7 +88,7 @@ fn granted_and_then_open_no_more(rt: HostRuntime) -> Result<(), Fail> {
     assert!(rt; matches!(answer, Err(Refusal::WrongState)));
     assert!(rt; matches!(sitting.state(), State::Halted) && sitting.steps() == 3);
     assert!(rt;
-        others.cells[0] == MARK && others.outputs[0] == MARK && others.page[0] == MARK,
+        others.unchanged(),
         "a refused open of a halted sitting changes nothing"
     );
     Ok(())
@@ -105,10 +101,7 @@ fn refused_at_the_open(rt: HostRuntime) -> Result<(), Fail> {
     let answer = lists.call(&mut sitting, &[], 1)?;
     assert!(rt; matches!(answer, Err(Refusal::ImageTooShort)));
     assert!(rt; matches!(sitting.state(), State::Blank));
-    assert!(rt;
-        lists.cells[0] == MARK && lists.outputs[0] == MARK && lists.page[0] == MARK,
-        "a refused open changes nothing"
-    );
+    assert!(rt; lists.unchanged(), "a refused open changes nothing");
     Ok(())
 }
 
@@ -123,6 +116,6 @@ fn refused_at_the_page(rt: HostRuntime) -> Result<(), Fail> {
         lists.cells[0] == SECRET && lists.outputs[0] == SHOWN,
         "the open and the run stand"
     );
-    assert!(rt; lists.page[0] == MARK, "the page list is unchanged");
+    assert!(rt; lists.page[0] == marked(), "the page list is unchanged");
     Ok(())
 }

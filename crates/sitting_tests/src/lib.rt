@@ -7,4 +7,6 @@ mod examined;
 #[cfg(test)]
 mod opening;
 #[cfg(test)]
+mod shared;
+#[cfg(test)]
 mod written;

@@ -1,8 +1,7 @@
 // Refusals that no image reaches by itself: cells of another number, and a sitting that is not blank.
+use crate::shared::{marked, order};
 use labels::cell::{Cell, Tag, Word};
-use labels::name::Parameters;
 use labels::refusal::Refusal;
-use orders::two_point::TwoPoint;
 use sitting::sitting::Sitting;
 use std::test::Fail;
 
@@ -10,13 +9,6 @@ use std::test::Fail;
 const IMAGE: [u8; 20] = [
     0x11, 0, 0, 1, 0, 1, 0, 0, 0, 0, 0xd0, 0, 0, 0, 0, 1, 0, 0, 0, 7,
 ];
-
-fn marked() -> Cell {
-    Cell {
-        word: Word(99),
-        tag: Tag(9),
-    }
-}
 
 fn copied() -> Cell {
     Cell {
@@ -69,12 +61,9 @@ fn opened_twice(rt: HostRuntime) -> Result<(), Fail> {
         ),
         "before every other check"
     );
-    let Ok(order) = TwoPoint::new(Parameters { p: 0, q: 0 }) else {
-        return Err(Fail::new("the two-point order takes these parameters"));
-    };
     assert!(rt;
         matches!(
-            sitting.open(&order, &IMAGE, &mut cells, &[]),
+            sitting.open(&order()?, &IMAGE, &mut cells, &[]),
             Err(Refusal::WrongState)
         )
     );

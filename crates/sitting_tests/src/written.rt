@@ -1,9 +1,8 @@
 // Images that are written and opened again, from the smallest to the largest, and writes that are refused.
+use crate::shared::order;
 use image::entry::{CodeEntry, read_code};
 use labels::cell::{Cell, Tag, Word};
-use labels::name::Parameters;
 use labels::refusal::Refusal;
-use orders::two_point::TwoPoint;
 use sitting::sitting::Sitting;
 use std::process::Abort;
 use std::test::Fail;
@@ -21,13 +20,6 @@ const CELL: Cell = Cell {
     word: Word(7),
     tag: Tag(1),
 };
-
-fn order() -> Result<TwoPoint, Fail> {
-    match TwoPoint::new(Parameters { p: 0, q: 0 }) {
-        Ok(order) => Ok(order),
-        Err(_) => Err(Fail::new("the two-point order takes these parameters")),
-    }
-}
 
 // Writes an image, opens it and compares what comes back.
 fn comes_back(
